@@ -1,3 +1,4 @@
 pub mod Numerals
 pub mod Items
 pub mod Lines
+pub mod Texts

@@ -1,5 +1,6 @@
 ghost use mathlib.Core.Path.{_≡_};
 ghost use Rattle.items.specs.Items.{partOf, partAt};
+ghost use Rattle.items.specs.Texts.{Spells};
 ghost use Rattle.items.specs.Lines.{kindOf, kindIn, numberIn, ended, paired, numbered, lettered, lineOf};
 use super::item::Item;
 use super::lexer::Lexer;
@@ -82,8 +83,8 @@ fn numbers_from(kind: Kind, lexer: &mut Lexer) -> Option<Line>
     line_from(kind, first, lexer)
 }
 
-// What the finished line of that number says, or what is wrong with its bytes.
-pub fn read_line(bytes: &[u8], number: u32) -> Result<Line, Refusal>
+// The line's letter, and then its numbers.
+fn parse_line(bytes: &[u8], number: u32) -> Result<Line, Refusal>
     ensures { λ r. ⌜ r ≡ lineOf (now (bytes .entry)) ⌝ }
 {
     let mut lexer = Lexer::new(bytes, number);
@@ -94,4 +95,12 @@ pub fn read_line(bytes: &[u8], number: u32) -> Result<Line, Refusal>
         Some(line) => Ok(line),
         None => Err(Refusal::LineForm),
     }
+}
+
+// What the finished line of that number says, or what is wrong with its bytes.
+pub fn read_line(bytes: &[u8], number: u32) -> Result<Line, Refusal>
+    ensures value { λ r. ⌜ r ≡ lineOf (now (bytes .entry)) ⌝ }
+    ensures spells { λ r. ⌜ Spells (now (bytes .entry)) r ⌝ }
+{
+    parse_line(bytes, number)
 }

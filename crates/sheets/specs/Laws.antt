@@ -8,13 +8,14 @@ use Rattle.std.specs.declared.option.Option.the-variants.{Some, None}
 use Rattle.std.specs.declared.result.Result.{Result}
 use Rattle.std.specs.declared.result.Result.the-variants.{Ok, Err}
 use Rattle.refusals.specs.declared.Refusal.the-variants.{SheetLong}
+use Rattle.items.specs.Texts.{Short, text-of}
 use Rattle.items.specs.declared.line.Line.{Line}
 use Rattle.maps.specs.Touch.{Touching}
 use Rattle.sheets.specs.Cut.{cut}
 use Rattle.sheets.specs.Faults.{fault-at, here-at, value-of}
 use Rattle.sheets.specs.Reading.{Wanted, at-line, most-bytes}
 use Rattle.sheets.specs.Settings.{Topic, regions, polygon}
-use Rattle.sheets.specs.Written.{Content, Subject, of-regions, of-polygon, Good, Short, text-of, written, wanted-for}
+use Rattle.sheets.specs.Written.{Content, Subject, of-regions, of-polygon, Good, written, wanted-for}
 use Rattle.sheets.specs.declared.fault.Fault.{Fault}
 
 -- two regions of the plan touch exactly if a pair line names them

@@ -56,14 +56,21 @@ abbrev pub regions-with : ℕ → Result Topic Refusal
 regions-with n = elim (begun n) [ Ok m ↦ Ok (regions m) | Err k ↦ Err k ]
 
 -- a pair line: a number that names no region or corner first, then a pair that cannot be
-abbrev pub pair-in : Option Topic → ℕ → ℕ → Result Topic Refusal
-pair-in None a b = Err OutOfRange
-pair-in (Some (regions m)) a b =
+abbrev pub pair-among : Regions → ℕ → ℕ → Result Topic Refusal
+pair-among m a b =
     elim (pair-fault (m .count-of) a b) [
       None ↦ Ok (regions (record { count-of = m .count-of; rows = with-pair (m .rows) a b }))
       | Some k ↦ Err k
     ]
-pair-in (Some (polygon n)) a b = Err (cond (leb n a || leb n b) OutOfRange BadPair)
+
+abbrev pub pair-in : Topic → ℕ → ℕ → Result Topic Refusal
+pair-in (regions m) a b = pair-among m a b
+pair-in (polygon n) a b = Err (cond (leb n a || leb n b) OutOfRange BadPair)
+
+-- before line 1 there is no region to name
+abbrev pub pair-after : Option Topic → ℕ → ℕ → Result Topic Refusal
+pair-after None a b = Err OutOfRange
+pair-after (Some t) a b = pair-in t a b
 
 -- a number of a C line or a full-stop line
 abbrev pub counted : ℕ → Result ℕ Refusal
@@ -85,7 +92,7 @@ with-most s k (Err e) = Err e
 abbrev pub set-by : Settings → Line → Result Settings Refusal
 set-by s (line.Regions n) = with-topic s (kindOfLine (line.Regions n)) (regions-with n)
 set-by s (line.Polygon n) = with-topic s (kindOfLine (line.Polygon n)) (polygon-with n)
-set-by s (line.Pair a b) = with-topic s (kindOfLine (line.Pair a b)) (pair-in (s .topic) a b)
+set-by s (line.Pair a b) = with-topic s (kindOfLine (line.Pair a b)) (pair-after (s .topic) a b)
 set-by s (line.Cap c) = with-cap s (kindOfLine (line.Cap c)) (counted c)
 set-by s (line.Stop m) = with-most s (kindOfLine (line.Stop m)) (counted m)
 

@@ -1,37 +1,20 @@
 -- Sheets as they are written in decimal.
 use mathlib.Core.List.{List, [], _∷_, _++_, map}
 use mathlib.Core.Logic.{_≢_}
-use Prim.Native.Nat.{ℕ, _<_, _≤_, _^_}
+use Prim.Native.Nat.{ℕ, _<_, _≤_}
 use Rattle.std.specs.Joined.{joined}
 use Rattle.std.specs.Options.{Cases, valueOr}
-use Rattle.std.specs.Written.{decimal}
 use Rattle.std.specs.shelf.Lists.{All}
 use Rattle.std.specs.declared.option.Option.{Option}
 use Rattle.std.specs.declared.option.Option.the-variants.{Some, None}
-use Rattle.items.specs.Numerals.{most-digits}
+use Rattle.items.specs.Texts.{text-of}
 use Rattle.items.specs.declared.line.Line.{Line}
 use Rattle.items.specs.declared.line.Line.the-variants.{Regions, Polygon, Pair, Cap, Stop}
-use Rattle.maps.specs.Touch as touch
 use Rattle.maps.specs.Touch.{most-regions, bare, with-pair}
 use Rattle.sheets.specs.Reading.{Wanted}
 use Rattle.sheets.specs.Settings.{Topic, regions, polygon, height-of, fewest-corners, most-corners, most-number}
 
--- a line as it is written, without its byte 10
-abbrev pub text-of : Line → List ℕ
-text-of (Regions n) = 82 ∷ (32 ∷ decimal n)
-text-of (Polygon n) = 80 ∷ (32 ∷ decimal n)
-text-of (Pair a b) = 45 ∷ (32 ∷ (decimal a ++ (32 ∷ decimal b)))
-text-of (Cap c) = 67 ∷ (32 ∷ decimal c)
-text-of (Stop m) = 46 ∷ (32 ∷ decimal m)
-
--- no number of the line has more digits than a numeral may have
-abbrev pub Short : Line → Type 0
-Short (Regions n) = n < 10 ^ most-digits
-Short (Polygon n) = n < 10 ^ most-digits
-Short (Pair a b) = (a < 10 ^ most-digits) × (b < 10 ^ most-digits)
-Short (Cap c) = c < 10 ^ most-digits
-Short (Stop m) = m < 10 ^ most-digits
-
+-- the bytes of lines one after the other, each with its byte 10
 unfoldable pub sheet-of : List Line → List ℕ
 sheet-of xs = joined (λ x. text-of x ++ (10 ∷ [])) xs
 

@@ -1,15 +1,11 @@
-use borrow.Author.Needs.{needs}
-use Rattle.items.specs.Lines.{lineOf}
+use mathlib.Core.Path.{sym, subst}
+use Rattle.items.specs.Texts.{Spells}
+use Rattle.items.proofs.Texts.{spells}
 use Rattle.items.proofs.parse.read_line.Needs as need
 
-pub returns-in-rest : need.returns-in-rest
-unfolding lineOf
-returns-in-rest c = search needs
-
-pub returns-in-Some-numbers-from : need.returns-in-Some-numbers-from
-unfolding lineOf
-returns-in-Some-numbers-from c = search needs
-
-pub returns-in-None : need.returns-in-None
-unfolding lineOf
-returns-in-None c = search needs
+pub returns : need.returns
+returns c =
+    record {
+      value = c .parse-line .ensures;
+      spells = subst (λ r. Spells (c .args .bytes .now) r) (sym (c .parse-line .ensures)) (spells (c .args .bytes .now))
+    }
