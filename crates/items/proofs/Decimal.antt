@@ -45,6 +45,7 @@ digits-read n (b ∷ bs) v e = go (asciiDigit b) refl (digits-read (n * 10 + (b 
   where
     at : Bool → Option ℕ
     at t = elim t [ true ↦ readOn (n * 10 + (b - 48)) bs | false ↦ None ]
+
     go : (t : Bool) → asciiDigit b ≡ t → (readOn (n * 10 + (b - 48)) bs ≡ Some v → allDigits bs ≡ true)
         → (asciiDigit b && allDigits bs) ≡ true
     go true f ih = and-from (asciiDigit b) (allDigits bs) f (ih (sym (ap at f) ∙ e))
@@ -62,13 +63,14 @@ Trimmed bs = (1 ≤ length bs) × (length bs ≤ 7) × ((getD bs 0 0 ≡ 48) →
 trimmed : (bs : List ℕ) → trim bs ≡ true → Trimmed bs
 trimmed bs e =
     let p = and-parts (leb 1 (length bs) && leb (length bs) 7) (not (eqb (getD bs 0 0) 48) || eqb (length bs) 1) e in
-    let q = and-parts (leb 1 (length bs)) (leb (length bs) 7) (p .0) in
-    (leb-true 1 (length bs) (q .0)
-    , leb-true (length bs) 7 (q .1)
-    , λ zero. elim (or-cases (not (eqb (getD bs 0 0) 48)) (eqb (length bs) 1) (p .1)) [
-      inl no-zero ↦ absurd (eqb-false (getD bs 0 0) 48 (not-true (eqb (getD bs 0 0) 48) no-zero) zero)
-      | inr alone ↦ eqb-true (length bs) 1 alone
-    ])
+    let q = and-parts (leb 1 (length bs)) (leb (length bs) 7) (p .0) in (
+      leb-true 1 (length bs) (q .0),
+      leb-true (length bs) 7 (q .1),
+      λ zero. elim (or-cases (not (eqb (getD bs 0 0) 48)) (eqb (length bs) 1) (p .1)) [
+        | inl no-zero ↦ absurd (eqb-false (getD bs 0 0) 48 (not-true (eqb (getD bs 0 0) 48) no-zero) zero)
+        | inr alone ↦ eqb-true (length bs) 1 alone
+      ],
+    )
 
 trim-from : (bs : List ℕ) → Trimmed bs → trim bs ≡ true
 trim-from bs h =
@@ -91,9 +93,10 @@ numeral-is bs v e = go (trim bs) refl
         let all = digits-read 0 bs v read in
         let got : Some (valueOn 0 bs) ≡ Some v = sym (read-digits 0 bs all) ∙ read in
         let same : valueOn 0 bs ≡ v = cc in
-        let small = value-short own bs 7 all (h .1) in
-        (subst (λ n. n < 10 ^ 7) same small
-        , sym (decimal-value own bs all (h .0) (h .2) (omega arith)) ∙ ap decimal same)
+        let small = value-short own bs 7 all (h .1) in (
+          subst (λ n. n < 10 ^ 7) same small,
+          sym (decimal-value own bs all (h .0) (h .2) (omega arith)) ∙ ap decimal same,
+        )
     go false f =
         let clash : None ≡ Some v = sym (ap (by-trim bs) f) ∙ e in
         absurd (let z : _≡_ {A = ℕ} 0 1 = cc in omega arith)
@@ -102,10 +105,11 @@ pub digits-in : (v : ℕ) → v < 10 ^ 7 → allDigits (decimal v) ≡ true
 digits-in v h = digits-decimal own v (omega arith)
 
 decimal-trimmed : (v : ℕ) → v < 10 ^ 7 → Trimmed (decimal v)
-decimal-trimmed v h =
-    (decimal-some v (omega arith)
-    , length-decimal-le 7 v (omega arith) h (omega arith)
-    , λ zero. go (cases-eq v 0) zero)
+decimal-trimmed v h = (
+  decimal-some v (omega arith),
+  length-decimal-le 7 v (omega arith) h (omega arith),
+  λ zero. go (cases-eq v 0) zero,
+)
   where
     go : (v ≡ 0) ⊎ (v ≡ 0 → ⊥) → getD (decimal v) 0 0 ≡ 48 → length (decimal v) ≡ 1
     go (inl e) zero = ap (λ n. length (decimal n)) e ∙ ap length (decimal-digit 0 (omega arith))

@@ -27,8 +27,10 @@ item-letter line at h ne =
 
 pub item-number : (line : List ℕ) (at : ℕ) → at < length line → getD line at 0 ≡ 32
     → partAt line at
-    ≡ (number (take (leading asciiDigit (drop (at + 1) line)) (drop (at + 1) line))
-    , at + 1 + leading asciiDigit (drop (at + 1) line))
+    ≡ (
+      number (take (leading asciiDigit (drop (at + 1) line)) (drop (at + 1) line)),
+      at + 1 + leading asciiDigit (drop (at + 1) line),
+    )
 unfolding partAt
 item-number line at h e =
     at-drop-more (λ xs. partFrom xs at) line at 0 h ∙ cond-true _ _ _ (eq-eqb (getD line at 0) 32 e)

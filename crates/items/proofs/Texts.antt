@@ -7,6 +7,7 @@ use native.Mathlib.Omega.{arith}
 use Prim.Native.Nat.{ℕ, suc, _+_, _<_, _≤_, _^_}
 use lib.Dec.{eqb}
 use lib.ListN.{length, take, drop}
+use Rattle.std.specs.Options.{isSome}
 use Rattle.std.specs.Text.{asciiDigit}
 use Rattle.std.specs.Written.{decimal}
 use Rattle.std.specs.shelf.Lists.{leading}
@@ -21,7 +22,7 @@ use Rattle.std.proofs.shelf.Ways.{tells}
 use Rattle.refusals.specs.declared.Refusal.{Refusal}
 use Rattle.refusals.specs.declared.Refusal.the-variants.{FirstByte, LineForm}
 use Rattle.items.specs.Items.{Part, letter, number, break, partFrom, partAt}
-use Rattle.items.specs.Lines.{kindOf, kindIn, numberIn, ended, paired, numbered, lettered, well-formed, lineOf}
+use Rattle.items.specs.Lines.{kindOf, kindIn, kind-at, numberIn, ended, paired, numbered, lettered, well-formed, lineOf}
 use Rattle.items.specs.Numerals.{numeralOf}
 use Rattle.items.specs.Texts.{text-of, Short, Spells}
 use Rattle.items.specs.declared.line.Kind.{Kind}
@@ -60,17 +61,20 @@ number-here l at a e = go (drop at l) refl
   where
     told : (q : Part × ℕ) → partAt l at ≡ q → numberIn (q .0) ≡ Some a
     told q p = ap (λ (r : Part × ℕ). numberIn (r .0)) (sym p) ∙ e
+
     space : (b : ℕ) (bs : List ℕ) → drop at l ≡ b ∷ bs → (t : Bool) → eqb b 32 ≡ t
         → (a < 10 ^ 7) × (drop at l ≡ 32 ∷ (decimal a ++ drop (partAt l at .1) l))
     space b bs f true g =
         let p = at-space l bs at b f g in
-        let n = numeral-is (take (run bs) bs) a (told _ p) in
-        (n .0
-        , f ∙ ap (λ c. c ∷ bs) (eqb-true b 32 g)
-        ∙ ap (λ ys. 32 ∷ ys)
-        (sym (take-append-drop (run bs) bs) ∙ ap (λ ys. ys ++ drop (run bs) bs) (n .1)
-        ∙ ap (λ ys. decimal a ++ ys) (sym (drop-on l bs at (run bs) b f) ∙ ap (λ (r : Part × ℕ). drop (r .1) l) (sym p))))
+        let n = numeral-is (take (run bs) bs) a (told _ p) in (
+          n .0,
+          f ∙ ap (λ c. c ∷ bs) (eqb-true b 32 g)
+              ∙ ap (λ ys. 32 ∷ ys)
+              (sym (take-append-drop (run bs) bs) ∙ ap (λ ys. ys ++ drop (run bs) bs) (n .1)
+              ∙ ap (λ ys. decimal a ++ ys) (sym (drop-on l bs at (run bs) b f) ∙ ap (λ (r : Part × ℕ). drop (r .1) l) (sym p))),
+        )
     space b bs f false g = clash a (told _ (at-letter l bs at b f g))
+
     go : (xs : List ℕ) → drop at l ≡ xs → (a < 10 ^ 7) × (drop at l ≡ 32 ∷ (decimal a ++ drop (partAt l at .1) l))
     go [] f = clash a (told _ (at-from l [] at f))
     go (b ∷ bs) f = space b bs f (eqb b 32) refl
@@ -80,6 +84,7 @@ break-here l at e = go (drop at l) refl
   where
     told : (q : Part × ℕ) → partAt l at ≡ q → q .0 ≡ break
     told q p = ap (λ (r : Part × ℕ). r .0) (sym p) ∙ e
+
     item : (b : ℕ) (bs : List ℕ) → drop at l ≡ b ∷ bs → (t : Bool) → eqb b 32 ≡ t → drop at l ≡ []
     item b bs f true g =
         let no : number (take (run bs) bs) ≡ break = told _ (at-space l bs at b f g) in
@@ -87,6 +92,7 @@ break-here l at e = go (drop at l) refl
     item b bs f false g =
         let no : letter b ≡ break = told _ (at-letter l bs at b f g) in
         absurd (let z : _≡_ {A = ℕ} 0 1 = cc in omega arith)
+
     go : (xs : List ℕ) → drop at l ≡ xs → drop at l ≡ []
     go [] f = f
     go (b ∷ bs) f = item b bs f (eqb b 32) refl
@@ -104,9 +110,10 @@ here-number : (l tail : List ℕ) (at a : ℕ) → a < 10 ^ 7 → run tail ≡ 0
 here-number l tail at a h none f =
     let bs = decimal a ++ tail in
     let p = at-space l bs at 32 f refl in
-    let n = run-digits (decimal a) tail (digits-in a h) none in
-    (ap (λ (r : Part × ℕ). numberIn (r .0)) p ∙ ap numeralOf (take-at (decimal a) tail (run bs) (sym n)) ∙ is-numeral a h
-    , ap (λ (r : Part × ℕ). drop (r .1) l) p ∙ drop-on l bs at (run bs) 32 f ∙ drop-at (decimal a) tail (run bs) (sym n))
+    let n = run-digits (decimal a) tail (digits-in a h) none in (
+      ap (λ (r : Part × ℕ). numberIn (r .0)) p ∙ ap numeralOf (take-at (decimal a) tail (run bs) (sym n)) ∙ is-numeral a h,
+      ap (λ (r : Part × ℕ). drop (r .1) l) p ∙ drop-on l bs at (run bs) 32 f ∙ drop-at (decimal a) tail (run bs) (sym n),
+    )
 
 here-break : (l : List ℕ) (at : ℕ) → drop at l ≡ [] → partAt l at .0 ≡ break
 here-break l at f = ap (λ (r : Part × ℕ). r .0) (at-from l [] at f)
@@ -148,15 +155,17 @@ paired-is a l at x e h = go (numberIn (partAt l at .0)) refl
   where
     by : Option ℕ → Option Line
     by o = elim o [ None ↦ None | Some b ↦ ended (partAt l (partAt l at .1) .0) (line.Pair a b) ]
+
     go : (o : Option ℕ) → numberIn (partAt l at .0) ≡ o → Spelt (45 ∷ (32 ∷ (decimal a ++ drop at l))) x
     go None f = clash x (sym (ap by f) ∙ e)
     go (Some b) f =
         let q = number-here l at b f in
         let d = ended-is (partAt l (partAt l at .1) .0) (line.Pair a b) x (sym (ap by f) ∙ e) in
-        subst (λ y. Spelt (45 ∷ (32 ∷ (decimal a ++ drop at l))) y) (d .1)
-        ((h, q .0)
-        , ap (λ ys. 45 ∷ (32 ∷ (decimal a ++ ys)))
-        (q .1 ∙ ap (λ ys. 32 ∷ ys) (ap (λ ys. decimal b ++ ys) (break-here l (partAt l at .1) (d .0)) ∙ append-nil (decimal b))))
+        subst (λ y. Spelt (45 ∷ (32 ∷ (decimal a ++ drop at l))) y) (d .1) (
+          (h, q .0),
+          ap (λ ys. 45 ∷ (32 ∷ (decimal a ++ ys)))
+              (q .1 ∙ ap (λ ys. 32 ∷ ys) (ap (λ ys. decimal b ++ ys) (break-here l (partAt l at .1) (d .0)) ∙ append-nil (decimal b))),
+        )
 
 numbered-is : (k : Kind) (a : ℕ) (l : List ℕ) (at : ℕ) (x : Line) → numbered k a l at ≡ Some x → a < 10 ^ 7
     → Spelt (byteOf k ∷ (32 ∷ (decimal a ++ drop at l))) x
@@ -196,6 +205,7 @@ letter-here (b ∷ bs) k e = go (eqb b 32) refl
   where
     told : (q : Part × ℕ) → partAt (b ∷ bs) 0 ≡ q → kindIn (q .0) ≡ Some k
     told q p = ap (λ (r : Part × ℕ). kindIn (r .0)) (sym p) ∙ e
+
     go : (t : Bool) → eqb b 32 ≡ t → b ∷ bs ≡ byteOf k ∷ drop (partAt (b ∷ bs) 0 .1) (b ∷ bs)
     go true g = clash k (told _ (at-space (b ∷ bs) bs 0 b refl g))
     go false g =
@@ -267,3 +277,31 @@ spelt-value (line.Stop m) h =
 
 pub spells : (l : List ℕ) → Spells l (lineOf l)
 spells l x = (λ e. value-spelt l x e, λ h. ap lineOf (h .1) ∙ spelt-value x (h .0))
+
+-- ---- which fault a line has
+
+first-kind : (l : List ℕ) → kindIn (partAt l 0 .0) ≡ kind-at l
+first-kind [] = ap (λ (r : Part × ℕ). kindIn (r .0)) (at-from [] [] 0 refl)
+first-kind (b ∷ bs) = go (eqb b 32) refl
+  where
+    go : (t : Bool) → eqb b 32 ≡ t → kindIn (partAt (b ∷ bs) 0 .0) ≡ kindOf b
+    go true g = ap (λ (r : Part × ℕ). kindIn (r .0)) (at-space (b ∷ bs) bs 0 b refl g) ∙ ap kindOf (sym (eqb-true b 32 g))
+    go false g = ap (λ (r : Part × ℕ). kindIn (r .0)) (at-letter (b ∷ bs) bs 0 b refl g)
+
+-- an unknown first byte, or behind a known one a malformed rest
+pub bad-line : (l : List ℕ) (k : Refusal) → lineOf l ≡ Err k
+    → ((k ≡ FirstByte) × (kind-at l ≡ None)) ⊎ ((k ≡ LineForm) × (isSome (kind-at l) ≡ true))
+unfolding lineOf by-kind
+bad-line l k e = go (kindIn (partAt l 0 .0)) refl
+  where
+    formed-not : (o : Option Line) → well-formed o ≡ Err k → k ≡ LineForm
+    formed-not None f = cc
+    formed-not (Some x) f = absurd (let z : _≡_ {A = ℕ} 0 1 = cc in omega arith)
+
+    go : (o : Option Kind) → kindIn (partAt l 0 .0) ≡ o
+        → ((k ≡ FirstByte) × (kind-at l ≡ None)) ⊎ ((k ≡ LineForm) × (isSome (kind-at l) ≡ true))
+    go None f =
+        let same : _≡_ {A = Result Line Refusal} (Err FirstByte) (Err k) = sym (ap (by-kind l) f) ∙ e in
+        inl (cc, sym (first-kind l) ∙ f)
+    go (Some j) f =
+        inr (formed-not (lettered j l (partAt l 0 .1)) (sym (ap (by-kind l) f) ∙ e), ap isSome (sym (first-kind l) ∙ f))

@@ -26,6 +26,11 @@ kindOf b =
     (cond (eqb b 67) (Some kind.Cap)
     (cond (eqb b 46) (Some kind.Stop) None))))
 
+-- what a line is about, by its first byte
+abbrev pub kind-at : List ℕ → Option Kind
+kind-at [] = None
+kind-at (b ∷ bs) = kindOf b
+
 abbrev pub kindIn : Part → Option Kind
 kindIn (letter b) = kindOf b
 kindIn (number ds) = None
@@ -46,7 +51,7 @@ ended break x = Some x
 abbrev pub paired : ℕ → List ℕ → ℕ → Option Line
 paired a l at =
     elim (numberIn (partAt l at .0)) [
-      None ↦ None
+      | None ↦ None
       | Some b ↦ ended (partAt l (partAt l at .1) .0) (line.Pair a b)
     ]
 

@@ -33,7 +33,13 @@ impl<'a> Lexer<'a> {
         ensures line { λ r. ⌜ now (r .line) ≡ now (line .entry) ⌝ }
         ensures place { λ r. ⌜ r .place ≡ record { line = number; at = 0 } ⌝ }
     {
-        Lexer { line, place: Place { line: number, at: 0 } }
+        Lexer {
+            line,
+            place: Place {
+                line: number,
+                at: 0,
+            },
+        }
     }
 
     // The item at the present place, which moves behind it; at the end of the line its break.

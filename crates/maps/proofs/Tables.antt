@@ -25,8 +25,23 @@ use Rattle.refusals.specs.declared.Refusal.the-variants.{OutOfRange}
 use Rattle.digits.specs.Bits.{bit, count, with-digit}
 use Rattle.digits.proofs.Digits.{or-pow-same, or-pow-other, bit-zero, bit-mod, count-ext, ones-count}
 use Rattle.maps.specs.Touch.{
-    Regions, touches, Mutual, Inside, bare, begun, entered, with-pair, pair-fault, offered, can-have, after-pairs,
-    map-from, Names, Named, Touching, pair-total
+  Regions,
+  touches,
+  Mutual,
+  Inside,
+  bare,
+  begun,
+  entered,
+  with-pair,
+  pair-fault,
+  offered,
+  can-have,
+  after-pairs,
+  map-from,
+  Names,
+  Named,
+  Touching,
+  pair-total,
 }
 
 with-in : (s b : ℕ) → b < 64 → bit (with-digit s b) b ≡ 1
@@ -48,6 +63,7 @@ module _ (t : List ℕ) (a b : ℕ) (fa : a < length t) (fb : b < 64) where
     where
       here : touches (entered t a b) a j ≡ touches t a j
       here = ap (λ x. bit x j) (getD-set-same t a (with-digit (getD t a 0) b) 0 fa) ∙ with-off (getD t a 0) b j fb ne
+
       go : (i ≡ a) ⊎ (i ≡ a → ⊥) → touches (entered t a b) i j ≡ touches t i j
       go (inl e) = ap (λ x. touches (entered t a b) x j) e ∙ here ∙ ap (λ x. touches t x j) (sym e)
       go (inr ne′) = entered-row i j ne′
@@ -152,7 +168,7 @@ entered-twice t u v a b e f = f ∙ ap (λ x. entered x b a) e
 by-offer : Regions → ℕ → ℕ → Option Refusal → Result (Unit {0}) Refusal × Regions
 by-offer m a b o =
     elim o [
-      None ↦ (Ok tt, record { count-of = m .count-of; rows = with-pair (m .rows) a b })
+      | None ↦ (Ok tt, record { count-of = m .count-of; rows = with-pair (m .rows) a b })
       | Some k ↦ (Err k, m)
     ]
 
@@ -192,9 +208,10 @@ pub grown : (m : Regions) (ps : List (ℕ × ℕ)) (u : Regions) → length (m .
     → after-pairs m ps ≡ Ok u → (i j : ℕ) → Grown m ps u i j
 unfolding after-pairs
 grown m [] u l few e i j =
-    let same : m ≡ u = same-ok m u e in
-    (λ h. inl (ap (λ x. touches (x .rows) i j) same ∙ h)
-    , λ h. elim h [ inl y ↦ ap (λ x. touches (x .rows) i j) (sym same) ∙ y | inr y ↦ absurd y ])
+    let same : m ≡ u = same-ok m u e in (
+      λ h. inl (ap (λ x. touches (x .rows) i j) same ∙ h),
+      λ h. elim h [ inl y ↦ ap (λ x. touches (x .rows) i j) (sym same) ∙ y | inr y ↦ absurd y ],
+    )
 grown m (p ∷ ps) u l few e i j =
     go (pair-fault (m .count-of) (p .0) (p .1)) refl
     (λ h. grown (with-one m p) ps u (length-with-pair (m .rows) (p .0) (p .1) ∙ l) few h i j)
@@ -203,13 +220,15 @@ grown m (p ∷ ps) u l few e i j =
         → Grown m (p ∷ ps) u i j
     chosen (inl x) g =
         (λ h. inr (inl (x .0)), λ h. g .1 (inl (x .1)))
-    chosen (inr x) g =
-        (λ h. elim (g .0 h) [ inl y ↦ inl (sym (x .1) ∙ y) | inr y ↦ inr (inr y) ]
-        , λ h. elim h [
-          inl y ↦ g .1 (inl (x .1 ∙ y))
-          | inr (inl y) ↦ absurd (x .0 y)
-          | inr (inr y) ↦ g .1 (inr y)
-        ])
+    chosen (inr x) g = (
+      λ h. elim (g .0 h) [ inl y ↦ inl (sym (x .1) ∙ y) | inr y ↦ inr (inr y) ],
+      λ h. elim h [
+        | inl y ↦ g .1 (inl (x .1 ∙ y))
+        | inr (inl y) ↦ absurd (x .0 y)
+        | inr (inr y) ↦ g .1 (inr y)
+      ],
+    )
+
     go : (o : Option Refusal) → pair-fault (m .count-of) (p .0) (p .1) ≡ o
         → (after-pairs (with-one m p) ps ≡ Ok u → Grown (with-one m p) ps u i j) → Grown m (p ∷ ps) u i j
     go None f ih =
@@ -251,13 +270,16 @@ offer-refused m u a b k e = go (pair-fault (m .count-of) a b) refl
         let same : _≡_ {A = Result (Unit {0}) Refusal} (Err k) (Err k′) = ap (λ r. r .0) (e ∙ ap (by-offer m a b) f) in
         cc
 
-pub begun-is : (n : ℕ) (m : Regions) → Ok m ≡ begun n → (n ≤ 64) × (m ≡ record { count-of = n; rows = bare })
+pub begun-is : (n : ℕ) (m : Regions) → Ok m ≡ begun n
+    → (1 ≤ n) × (n ≤ 64) × (m ≡ record { count-of = n; rows = bare })
 begun-is n m e = go (can-have n) refl
   where
-    go : (t : Bool) → can-have n ≡ t → (n ≤ 64) × (m ≡ record { count-of = n; rows = bare })
-    go true f =
-        (leb-true n 64 (and-parts (leb 1 n) (leb n 64) f .1)
-        , same-ok m _ (e ∙ cond-true (can-have n) (Ok (record { count-of = n; rows = bare })) (Err OutOfRange) f))
+    go : (t : Bool) → can-have n ≡ t → (1 ≤ n) × (n ≤ 64) × (m ≡ record { count-of = n; rows = bare })
+    go true f = (
+      leb-true 1 n (and-parts (leb 1 n) (leb n 64) f .0),
+      leb-true n 64 (and-parts (leb 1 n) (leb n 64) f .1),
+      same-ok m _ (e ∙ cond-true (can-have n) (Ok (record { count-of = n; rows = bare })) (Err OutOfRange) f),
+    )
     go false f =
         absurd (clash m OutOfRange (sym (e ∙ cond-false (can-have n) (Ok (record { count-of = n; rows = bare })) (Err OutOfRange) f)))
 
@@ -295,7 +317,7 @@ module _ (n : ℕ) (ps : List (ℕ × ℕ)) (m₀ m : Regions) (i : ℕ) (start 
   pub run-meant : length ps ≤ i → Touching ps (m .rows)
   run-meant h =
       let first = begun-is n m₀ start in
-      meant n ps m (first .0) (ap (λ v. after-pairs v ps) (sym (first .1)) ∙ run-ends h)
+      meant n ps m (first .1) (ap (λ v. after-pairs v ps) (sym (first .2)) ∙ run-ends h)
 
 -- ---- counting pairs
 

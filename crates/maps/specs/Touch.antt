@@ -57,7 +57,7 @@ pair-fault n a b = cond (leb n a || leb n b) (Some OutOfRange) (cond (eqb a b) (
 abbrev pub offered : Regions → ℕ → ℕ → Result (Unit {0}) Refusal × Regions
 offered m a b =
     elim (pair-fault (m .count-of) a b) [
-      None ↦ (Ok tt, record { count-of = m .count-of; rows = with-pair (m .rows) a b })
+      | None ↦ (Ok tt, record { count-of = m .count-of; rows = with-pair (m .rows) a b })
       | Some k ↦ (Err k, m)
     ]
 
@@ -70,7 +70,7 @@ unfoldable pub after-pairs : Regions → List (ℕ × ℕ) → Result Regions Re
 after-pairs m [] = Ok m
 after-pairs m (p ∷ ps) =
     elim (pair-fault (m .count-of) (p .0) (p .1)) [
-      None ↦ after-pairs (record { count-of = m .count-of; rows = with-pair (m .rows) (p .0) (p .1) }) ps
+      | None ↦ after-pairs (record { count-of = m .count-of; rows = with-pair (m .rows) (p .0) (p .1) }) ps
       | Some k ↦ Err k
     ]
 

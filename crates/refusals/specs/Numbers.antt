@@ -5,8 +5,21 @@ use Rattle.std.specs.declared.option.Option.{Option}
 use Rattle.std.specs.declared.option.Option.the-variants.{Some, None}
 use Rattle.refusals.specs.declared.Refusal.{Refusal}
 use Rattle.refusals.specs.declared.Refusal.the-variants.{
-    BufferShort, BlockSize, BlockCheck, BlockForm, JobDiffers, NotACode, PastEnd, SlotRange,
-    FirstByte, LineForm, LineOrder, OutOfRange, BadPair, SheetShort, SheetLong
+  BufferShort,
+  BlockSize,
+  BlockCheck,
+  BlockForm,
+  JobDiffers,
+  NotACode,
+  PastEnd,
+  SlotRange,
+  FirstByte,
+  LineForm,
+  LineOrder,
+  OutOfRange,
+  BadPair,
+  SheetShort,
+  SheetLong,
 }
 
 abbrev pub numberOf : Refusal → ℕ

@@ -15,7 +15,7 @@ use Rattle.sheets.specs.Cut.{Cut, cut, in-front, line-length}
 by-break : ℕ → List ℕ → Bool → Cut
 by-break b bs t =
     elim t [
-      true ↦ record { lines = [] ∷ cut bs .lines; rest = cut bs .rest }
+      | true ↦ record { lines = [] ∷ cut bs .lines; rest = cut bs .rest }
       | false ↦ in-front b (cut bs .lines) (cut bs .rest)
     ]
 
@@ -71,7 +71,7 @@ pub cut-more : (bs : List ℕ) → line-length bs < length bs
     → cut bs
     ≡ record {
       lines = take (line-length bs) bs ∷ cut (drop (line-length bs + 1) bs) .lines;
-      rest = cut (drop (line-length bs + 1) bs) .rest
+      rest = cut (drop (line-length bs + 1) bs) .rest;
     }
 cut-more bs h =
     cut-first bs h

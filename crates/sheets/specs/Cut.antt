@@ -18,7 +18,7 @@ unfoldable pub cut : List ℕ → Cut
 cut [] = record { lines = []; rest = [] }
 cut (b ∷ bs) =
     elim (eqb b 10) [
-      true ↦ record { lines = [] ∷ cut bs .lines; rest = cut bs .rest }
+      | true ↦ record { lines = [] ∷ cut bs .lines; rest = cut bs .rest }
       | false ↦ in-front b (cut bs .lines) (cut bs .rest)
     ]
 

@@ -9,10 +9,23 @@ use Rattle.std.specs.declared.option.Option.{Option}
 use Rattle.std.specs.declared.option.Option.the-variants.{Some, None}
 use Rattle.refusals.specs.declared.Refusal.{Refusal}
 use Rattle.refusals.specs.declared.Refusal.the-variants.{
-    BufferShort, BlockSize, BlockCheck, BlockForm, JobDiffers, NotACode, PastEnd, SlotRange,
-    FirstByte, LineForm, LineOrder, OutOfRange, BadPair, SheetShort, SheetLong
+  BufferShort,
+  BlockSize,
+  BlockCheck,
+  BlockForm,
+  JobDiffers,
+  NotACode,
+  PastEnd,
+  SlotRange,
+  FirstByte,
+  LineForm,
+  LineOrder,
+  OutOfRange,
+  BadPair,
+  SheetShort,
+  SheetLong,
 }
-use Rattle.items.specs.Lines.{kindOf, lineOf}
+use Rattle.items.specs.Lines.{kind-at, lineOf}
 use Rattle.items.specs.declared.line.Kind.{Kind}
 use Rattle.items.specs.declared.line.Line.{Line}
 use Rattle.items.specs.declared.line.Line.the-variants.{Regions, Polygon, Pair, Cap, Stop}
@@ -30,11 +43,7 @@ here-at [] r i = broken r
 here-at (l ∷ ls) r zero = whole l
 here-at (l ∷ ls) r (suc i) = here-at ls r i
 
--- what a line is about, by its first byte; its value, where it is well formed
-abbrev pub kind-at : List ℕ → Option Kind
-kind-at [] = None
-kind-at (b ∷ bs) = kindOf b
-
+-- the value of a line that is well formed
 abbrev pub value-of : List ℕ → Option Line
 value-of l = okPart (lineOf l)
 

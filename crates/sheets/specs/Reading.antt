@@ -34,7 +34,7 @@ at-line k n = record { refusal = k; line = n }
 unfoldable pub after-bytes : Settings → List ℕ → Result Settings Refusal
 after-bytes s l =
     elim (stopped (s .last)) [
-      true ↦ Err LineOrder
+      | true ↦ Err LineOrder
       | false ↦ elim (lineOf l) [ Ok x ↦ after-line s x | Err k ↦ Err k ]
     ]
 
@@ -61,6 +61,6 @@ read-from n s (l ∷ ls) r =
 unfoldable pub read-all : List ℕ → Result Wanted Fault
 read-all bs =
     elim (leb (length bs) most-bytes) [
-      true ↦ read-from 1 unset (cut bs .lines) (cut bs .rest)
+      | true ↦ read-from 1 unset (cut bs .lines) (cut bs .rest)
       | false ↦ Err (at-line SheetLong 0)
     ]

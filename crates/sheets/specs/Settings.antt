@@ -59,7 +59,7 @@ regions-with n = elim (begun n) [ Ok m ↦ Ok (regions m) | Err k ↦ Err k ]
 abbrev pub pair-among : Regions → ℕ → ℕ → Result Topic Refusal
 pair-among m a b =
     elim (pair-fault (m .count-of) a b) [
-      None ↦ Ok (regions (record { count-of = m .count-of; rows = with-pair (m .rows) a b }))
+      | None ↦ Ok (regions (record { count-of = m .count-of; rows = with-pair (m .rows) a b }))
       | Some k ↦ Err k
     ]
 

@@ -22,12 +22,21 @@ fn take_line(state: State, bytes: &[u8], number: u32) -> Result<State, Fault>
     ensures { λ r. ⌜ through «state-of» r ≡ faulted («after-bytes» («state-of» state) (now (bytes .entry))) number ⌝ }
 {
     if stopped(state.last) {
-        return Err(Fault { refusal: Refusal::LineOrder, line: number });
+        return Err(Fault {
+            refusal: Refusal::LineOrder,
+            line: number,
+        });
     }
     match read_line(bytes, number) {
-        Err(refusal) => Err(Fault { refusal, line: number }),
+        Err(refusal) => Err(Fault {
+            refusal,
+            line: number,
+        }),
         Ok(line) => match state.after_line(line) {
-            Err(refusal) => Err(Fault { refusal, line: number }),
+            Err(refusal) => Err(Fault {
+                refusal,
+                line: number,
+            }),
             Ok(next) => Ok(next),
         },
     }
@@ -59,13 +68,22 @@ impl Subject {
 fn plan(state: State) -> Result<Plan, Refusal>
     ensures { λ r. ⌜ through «plan-of» r ≡ «wanted-by» («state-of» state) («state-of» state .topic) ⌝ }
 {
-    let State { last: _, topic, cap, most } = state;
+    let State {
+        last: _,
+        topic,
+        cap,
+        most,
+    } = state;
     let Some(topic) = topic else {
         return Err(Refusal::SheetShort);
     };
     let subject = sealed(topic);
     let height = subject.height();
-    Ok(Plan { subject, cap: cap.unwrap_or(height), most })
+    Ok(Plan {
+        subject,
+        cap: cap.unwrap_or(height),
+        most,
+    })
 }
 
 // What is wanted where no finished line is left.
@@ -96,7 +114,10 @@ fn read_lines(bytes: &[u8]) -> Result<Plan, Fault>
     }
     match finish(state, rest) {
         Ok(plan) => Ok(plan),
-        Err(refusal) => Err(Fault { refusal, line: number }),
+        Err(refusal) => Err(Fault {
+            refusal,
+            line: number,
+        }),
     }
 }
 
@@ -107,7 +128,10 @@ pub fn read_sheet(bytes: &[u8]) -> Result<Plan, Fault>
     ensures refusing { λ r. ⌜ Refusing (now (bytes .entry)) (through «plan-of» r) ⌝ }
 {
     if bytes.len() > 65_536 {
-        return Err(Fault { refusal: Refusal::SheetLong, line: 0 });
+        return Err(Fault {
+            refusal: Refusal::SheetLong,
+            line: 0,
+        });
     }
     read_lines(bytes)
 }

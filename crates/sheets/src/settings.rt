@@ -70,42 +70,87 @@ impl State {
     pub fn new() -> Self
         ensures { λ r. ⌜ «state-of» r ≡ unset ⌝ }
     {
-        State { last: None, topic: None, cap: None, most: 0 }
+        State {
+            last: None,
+            topic: None,
+            cap: None,
+            most: 0,
+        }
     }
 
     fn with_subject(self, kind: Kind, made: Result<Topic, Refusal>) -> Result<State, Refusal>
         ensures { λ r. ⌜ through «state-of» r ≡ «with-topic» («state-of» self) kind (through «topic-of» made) ⌝ }
     {
-        let State { last: _, topic: _, cap, most } = self;
+        let State {
+            last: _,
+            topic: _,
+            cap,
+            most,
+        } = self;
         let topic = made?;
-        Ok(State { last: Some(kind), topic: Some(topic), cap, most })
+        Ok(State {
+            last: Some(kind),
+            topic: Some(topic),
+            cap,
+            most,
+        })
     }
 
     fn with_pair(self, a: u32, b: u32) -> Result<State, Refusal>
         ensures { λ r. ⌜ through «state-of» r ≡ «set-by» («state-of» self) (Line.Pair a b) ⌝ }
     {
-        let State { last: _, topic, cap, most } = self;
+        let State {
+            last: _,
+            topic,
+            cap,
+            most,
+        } = self;
         let Some(topic) = topic else {
             return Err(Refusal::OutOfRange);
         };
         let topic = pair(topic, a, b)?;
-        Ok(State { last: Some(Kind::Pair), topic: Some(topic), cap, most })
+        Ok(State {
+            last: Some(Kind::Pair),
+            topic: Some(topic),
+            cap,
+            most,
+        })
     }
 
     fn with_cap(self, cap: u32) -> Result<State, Refusal>
         ensures { λ r. ⌜ through «state-of» r ≡ «set-by» («state-of» self) (Line.Cap «cap») ⌝ }
     {
-        let State { last: _, topic, cap: _, most } = self;
+        let State {
+            last: _,
+            topic,
+            cap: _,
+            most,
+        } = self;
         let cap = counted(cap)?;
-        Ok(State { last: Some(Kind::Cap), topic, cap: Some(cap), most })
+        Ok(State {
+            last: Some(Kind::Cap),
+            topic,
+            cap: Some(cap),
+            most,
+        })
     }
 
     fn with_most(self, most: u32) -> Result<State, Refusal>
         ensures { λ r. ⌜ through «state-of» r ≡ «set-by» («state-of» self) (Line.Stop most) ⌝ }
     {
-        let State { last: _, topic, cap, most: _ } = self;
+        let State {
+            last: _,
+            topic,
+            cap,
+            most: _,
+        } = self;
         let most = counted(most)?;
-        Ok(State { last: Some(Kind::Stop), topic, cap, most })
+        Ok(State {
+            last: Some(Kind::Stop),
+            topic,
+            cap,
+            most,
+        })
     }
 
     // The values of a line that is in place.

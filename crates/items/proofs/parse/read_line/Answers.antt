@@ -7,5 +7,5 @@ pub returns : need.returns
 returns c =
     record {
       value = c .parse-line .ensures;
-      spells = subst (λ r. Spells (c .args .bytes .now) r) (sym (c .parse-line .ensures)) (spells (c .args .bytes .now))
+      spells = subst (λ r. Spells (c .args .bytes .now) r) (sym (c .parse-line .ensures)) (spells (c .args .bytes .now));
     }

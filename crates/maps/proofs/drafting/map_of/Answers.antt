@@ -12,9 +12,9 @@ returns-in-Break-add c =
     rw (p .1, p .2)
     (record {
       value =
-        run-refused (c .args .n) (c .args .pairs .now) (drafted (c .in-Continue-draft .draft)) (drafted (c .loop-a .draft)) (c .loop-a .a-index)
-        (c .in-Continue-draft .ensures tt) (c .loop-a .inv) (drafted (c .add .last .self)) _ (c .loop-a-test .taken) (c .in-Break-add .ensures tt);
-      touching = tt
+          run-refused (c .args .n) (c .args .pairs .now) (drafted (c .in-Continue-draft .draft)) (drafted (c .loop-a .draft)) (c .loop-a .a-index)
+          (c .in-Continue-draft .ensures tt) (c .loop-a .inv) (drafted (c .add .last .self)) _ (c .loop-a-test .taken) (c .in-Break-add .ensures tt);
+      touching = tt;
     })
 
 pub loop-a-again : need.loop-a-again
@@ -26,11 +26,11 @@ pub returns : need.returns
 returns c =
     record {
       value =
-        ap Ok (c .seal .ensures)
-        ∙ run-done (c .args .n) (c .args .pairs .now) (drafted (c .in-Continue-draft .draft)) (drafted (c .loop-a .draft)) (c .loop-a .a-index)
-        (c .in-Continue-draft .ensures tt) (c .loop-a .inv) (c .loop-a-test .left);
+          ap Ok (c .seal .ensures)
+          ∙ run-done (c .args .n) (c .args .pairs .now) (drafted (c .in-Continue-draft .draft)) (drafted (c .loop-a .draft)) (c .loop-a .a-index)
+          (c .in-Continue-draft .ensures tt) (c .loop-a .inv) (c .loop-a-test .left);
       touching =
-        subst (λ (m : Regions). Touching (c .args .pairs .now) (m .rows)) (sym (c .seal .ensures))
-        (run-meant (c .args .n) (c .args .pairs .now) (drafted (c .in-Continue-draft .draft)) (drafted (c .loop-a .draft)) (c .loop-a .a-index)
-        (c .in-Continue-draft .ensures tt) (c .loop-a .inv) (c .loop-a-test .left))
+          subst (λ (m : Regions). Touching (c .args .pairs .now) (m .rows)) (sym (c .seal .ensures))
+          (run-meant (c .args .n) (c .args .pairs .now) (drafted (c .in-Continue-draft .draft)) (drafted (c .loop-a .draft)) (c .loop-a .a-index)
+          (c .in-Continue-draft .ensures tt) (c .loop-a .inv) (c .loop-a-test .left));
     }

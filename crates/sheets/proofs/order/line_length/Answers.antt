@@ -13,7 +13,7 @@ use Rattle.sheets.proofs.order.line_length.Needs as need
 pub returns-then-b-eq10 : need.returns-then-b-eq10
 returns-then-b-eq10 c =
     let none = leading-drop-no (λ b. not (eqb b 10)) (c .args .bytes .now) (c .loop-n .n) 0 (c .loop-n-test .taken)
-          (ap not (eq-eqb (getD (c .args .bytes .now) (c .loop-n .n) 0) 10 (c .if-b-eq10 .taken))) in
+    (ap not (eq-eqb (getD (c .args .bytes .now) (c .loop-n .n) 0) 10 (c .if-b-eq10 .taken))) in
     let same : c .loop-n .n ≡ line-length (c .args .bytes .now) = omega arith in
     let less : line-length (c .args .bytes .now) < length (c .args .bytes .now) = omega arith in
     ap Some same ∙ cond-below (line-length (c .args .bytes .now)) (length (c .args .bytes .now)) (Some (line-length (c .args .bytes .now))) None less
@@ -21,5 +21,5 @@ returns-then-b-eq10 c =
 pub loop-n-again : need.loop-n-again
 loop-n-again c =
     let more = leading-drop-yes (λ b. not (eqb b 10)) (c .args .bytes .now) (c .loop-n .n) 0 (c .loop-n-test .taken)
-          (ap not (ne-eqb (getD (c .args .bytes .now) (c .loop-n .n) 0) 10 (c .if-b-eq10 .left))) in
+    (ap not (ne-eqb (getD (c .args .bytes .now) (c .loop-n .n) 0) 10 (c .if-b-eq10 .left))) in
     omega arith

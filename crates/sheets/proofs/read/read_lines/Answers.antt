@@ -16,10 +16,11 @@ returns-in-Break-state c =
 pub loop-n-again : need.loop-n-again
 loop-n-again c =
     let less = turn-less (c .loop-n .number) (state-of (c .loop-n .state)) (c .loop-n .rest .now) _ (c .loop-n .inv .0) (c .in-Some .n)
-          (c .in-Some .ensures tt) in
-    (turn-on (c .loop-n .number) (state-of (c .loop-n .state)) (c .loop-n .rest .now) _ (c .loop-n .inv .0) (c .in-Some .n)
-    (c .in-Some .ensures tt) (state-of (c .in-Continue-state .state)) (c .in-Continue-state .ensures tt)
-    , omega arith)
+    (c .in-Some .ensures tt) in (
+      turn-on (c .loop-n .number) (state-of (c .loop-n .state)) (c .loop-n .rest .now) _ (c .loop-n .inv .0) (c .in-Some .n)
+          (c .in-Some .ensures tt) (state-of (c .in-Continue-state .state)) (c .in-Continue-state .ensures tt),
+      omega arith,
+    )
 
 pub returns-in-Ok : need.returns-in-Ok
 returns-in-Ok c =

@@ -12,16 +12,16 @@ returns-then-stopped c =
 pub returns-in-Err : need.returns-in-Err
 returns-in-Err c =
     ap (λ a. faulted a (c .args .number))
-    (sym (bytes-bad (state-of (c .args .state)) (c .args .bytes .now) (c .in-Err .refusal) (sym (c .if-stopped .ensures tt)) (sym (c .in-Err .ensures tt))))
+    (sym (bytes-bad (state-of (c .args .state)) (c .args .bytes .now) (c .in-Err .refusal) (sym (c .if-stopped .ensures tt)) (sym (c .in-Err .ensures tt .value))))
 
 pub returns-in-Err-after-line : need.returns-in-Err-after-line
 returns-in-Err-after-line c =
     ap (λ a. faulted a (c .args .number))
     (c .in-Err-after-line .ensures tt
-    ∙ sym (bytes-good (state-of (c .args .state)) (c .args .bytes .now) (c .in-Ok .line) (sym (c .if-stopped .ensures tt)) (sym (c .in-Ok .ensures tt))))
+    ∙ sym (bytes-good (state-of (c .args .state)) (c .args .bytes .now) (c .in-Ok .line) (sym (c .if-stopped .ensures tt)) (sym (c .in-Ok .ensures tt .value))))
 
 pub returns-in-Ok-after-line : need.returns-in-Ok-after-line
 returns-in-Ok-after-line c =
     ap (λ a. faulted a (c .args .number))
     (c .in-Ok-after-line .ensures tt
-    ∙ sym (bytes-good (state-of (c .args .state)) (c .args .bytes .now) (c .in-Ok .line) (sym (c .if-stopped .ensures tt)) (sym (c .in-Ok .ensures tt))))
+    ∙ sym (bytes-good (state-of (c .args .state)) (c .args .bytes .now) (c .in-Ok .line) (sym (c .if-stopped .ensures tt)) (sym (c .in-Ok .ensures tt .value))))

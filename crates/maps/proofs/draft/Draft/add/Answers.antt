@@ -13,13 +13,20 @@ ghost-self c =
     let long : length (c .args .self .now .rows) ≡ 64 = omega arith in
     let both = entered-twice (c .args .self .now .rows) _ _ (c .args .a) (c .args .b) (c .enter .ensures) (c .enter-2 .ensures) in
     let ha : c .args .a < 64 = omega arith in
-    let hb : c .args .b < 64 = omega arith in
-    (c .args .self .now .some
-    , (c .args .self .now .few
-    , (subst (λ t. Mutual t) (sym both) (mutual-with-pair (c .args .self .now .rows) (c .args .a) (c .args .b) long ha hb (c .args .self .now .«mutual»))
-    , (subst (λ t. Inside (c .args .self .now .n) t) (sym both)
-      (inside-with-pair (c .args .self .now .n) (c .args .self .now .rows) (c .args .a) (c .args .b) long (omega arith) (good .0) (good .1) (c .args .self .now .inside))
-    , tt))))
+    let hb : c .args .b < 64 = omega arith in (
+      c .args .self .now .some,
+      (
+        c .args .self .now .few,
+        (
+          subst (λ t. Mutual t) (sym both) (mutual-with-pair (c .args .self .now .rows) (c .args .a) (c .args .b) long ha hb (c .args .self .now .«mutual»)),
+          (
+            subst (λ t. Inside (c .args .self .now .n) t) (sym both)
+                (inside-with-pair (c .args .self .now .n) (c .args .self .now .rows) (c .args .a) (c .args .b) long (omega arith) (good .0) (good .1) (c .args .self .now .inside)),
+            tt,
+          ),
+        ),
+      ),
+    )
 
 pub returns : need.returns
 returns c =
