@@ -8,7 +8,7 @@ ghost use Rattle.sheets.specs.Order.{kindOfLine, stage as stageOf, follows as 
 use items::Kind;
 use items::Line;
 
-pub fn kind_of_line(line: Line) -> Kind
+pub(crate) fn kind_of_line(line: Line) -> Kind
     ensures { λ r. ⌜ r ≡ kindOfLine line ⌝ }
 {
     match line {
@@ -34,7 +34,7 @@ fn stage(kind: Kind) -> u8
 }
 
 // Whether a kind of line may come after the line before: stages ascend, and only pairs repeat.
-pub fn follows(last: Option<Kind>, kind: Kind) -> bool
+pub(crate) fn follows(last: Option<Kind>, kind: Kind) -> bool
     ensures { λ r. ⌜ r ≡ mayFollow last kind ⌝ }
 {
     match last {
@@ -48,7 +48,7 @@ pub fn follows(last: Option<Kind>, kind: Kind) -> bool
 }
 
 // Whether the line before is the full stop.
-pub fn stopped(last: Option<Kind>) -> bool
+pub(crate) fn stopped(last: Option<Kind>) -> bool
     ensures { λ r. ⌜ r ≡ isStopped last ⌝ }
 {
     match last {
@@ -58,7 +58,7 @@ pub fn stopped(last: Option<Kind>) -> bool
 }
 
 // How many bytes stand before the first line break; none where there is no break.
-pub fn line_length(bytes: &[u8]) -> Option<usize>
+pub(crate) fn line_length(bytes: &[u8]) -> Option<usize>
     ensures { λ r. ⌜ r ≡ cond (ltb («line-length» (now (bytes .entry))) (length (now (bytes .entry)))) (Some («line-length» (now (bytes .entry)))) None ⌝ }
 {
     for (n, b) in bytes.iter().enumerate() {

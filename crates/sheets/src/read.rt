@@ -1,9 +1,10 @@
 ghost use mathlib.Core.Path.{_≡_};
 ghost use Prim.Native.Nat.{_≤_};
+ghost use lib.Dec.{ltb};
 ghost use lib.ListN.{length};
 ghost use Rattle.maps.specs.Views.{through};
 ghost use Rattle.sheets.specs.Laws.{Accepting, Refusing};
-ghost use Rattle.sheets.specs.Reading.{«after-bytes», «wanted-by», «at-end», faulted, «read-from», «read-all»};
+ghost use Rattle.sheets.specs.Reading.{«most-bytes», «at-line», «after-bytes», «wanted-by», «at-end», faulted, «read-from», «read-all»};
 ghost use Rattle.sheets.specs.Views.{«plan-of», «state-of», «subject-of», «topic-of»};
 ghost use Rattle.sheets.specs.Settings.{unset, «height-of»};
 ghost use Rattle.sheets.specs.Cut.{cut};
@@ -17,26 +18,23 @@ use super::state::Topic;
 use items::read_line;
 use refusals::Refusal;
 
+fn at_line(refusal: Refusal, line: u32) -> Fault
+    ensures { λ r. ⌜ r ≡ «at-line» refusal line ⌝ }
+{
+    Fault { refusal, line }
+}
+
 // The settings after the bytes of one finished line; behind the full stop nothing may stand.
 fn take_line(state: State, bytes: &[u8], number: u32) -> Result<State, Fault>
     ensures { λ r. ⌜ through «state-of» r ≡ faulted («after-bytes» («state-of» state) (now (bytes .entry))) number ⌝ }
 {
     if stopped(state.last) {
-        return Err(Fault {
-            refusal: Refusal::LineOrder,
-            line: number,
-        });
+        return Err(at_line(Refusal::LineOrder, number));
     }
     match read_line(bytes, number) {
-        Err(refusal) => Err(Fault {
-            refusal,
-            line: number,
-        }),
+        Err(refusal) => Err(at_line(refusal, number)),
         Ok(line) => match state.after_line(line) {
-            Err(refusal) => Err(Fault {
-                refusal,
-                line: number,
-            }),
+            Err(refusal) => Err(at_line(refusal, number)),
             Ok(next) => Ok(next),
         },
     }
@@ -86,17 +84,20 @@ fn plan(state: State) -> Result<Plan, Refusal>
     })
 }
 
-// What is wanted where no finished line is left.
-fn finish(state: State, rest: &[u8]) -> Result<Plan, Refusal>
-    ensures { λ r. ⌜ through «plan-of» r ≡ «at-end» («state-of» state) (now (rest .entry)) ⌝ }
+// What is wanted where no finished line is left; the fault stands at the line that would come next.
+fn finish(state: State, rest: &[u8], next: u32) -> Result<Plan, Fault>
+    ensures { λ r. ⌜ through «plan-of» r ≡ faulted («at-end» («state-of» state) (now (rest .entry))) next ⌝ }
 {
     if !stopped(state.last) {
-        return Err(Refusal::SheetShort);
+        return Err(at_line(Refusal::SheetShort, next));
     }
     if !rest.is_empty() {
-        return Err(Refusal::LineOrder);
+        return Err(at_line(Refusal::LineOrder, next));
     }
-    plan(state)
+    match plan(state) {
+        Ok(plan) => Ok(plan),
+        Err(refusal) => Err(at_line(refusal, next)),
+    }
 }
 
 // Reads line after line, and what follows the last.
@@ -112,13 +113,13 @@ fn read_lines(bytes: &[u8]) -> Result<Plan, Fault>
         rest = &rest[n + 1..];
         number += 1;
     }
-    match finish(state, rest) {
-        Ok(plan) => Ok(plan),
-        Err(refusal) => Err(Fault {
-            refusal,
-            line: number,
-        }),
-    }
+    finish(state, rest, number)
+}
+
+fn is_too_long(bytes: &[u8]) -> bool
+    ensures { λ r. ⌜ r ≡ ltb «most-bytes» (length (now (bytes .entry))) ⌝ }
+{
+    bytes.len() > 65_536
 }
 
 // The plan that the sheet asks for, or its first fault.
@@ -127,11 +128,8 @@ pub fn read_sheet(bytes: &[u8]) -> Result<Plan, Fault>
     ensures accepting { λ r. ⌜ Accepting (now (bytes .entry)) (through «plan-of» r) ⌝ }
     ensures refusing { λ r. ⌜ Refusing (now (bytes .entry)) (through «plan-of» r) ⌝ }
 {
-    if bytes.len() > 65_536 {
-        return Err(Fault {
-            refusal: Refusal::SheetLong,
-            line: 0,
-        });
+    if is_too_long(bytes) {
+        return Err(at_line(Refusal::SheetLong, 0));
     }
     read_lines(bytes)
 }

@@ -67,7 +67,7 @@ fn counted(number: u32) -> Result<u32, Refusal>
 
 impl State {
     // Before the first line.
-    pub fn new() -> Self
+    pub(crate) fn new() -> Self
         ensures { λ r. ⌜ «state-of» r ≡ unset ⌝ }
     {
         State {
@@ -167,7 +167,7 @@ impl State {
     }
 
     // One line more: its place among the lines comes before its values.
-    pub fn after_line(self, line: Line) -> Result<State, Refusal>
+    pub(crate) fn after_line(self, line: Line) -> Result<State, Refusal>
         ensures { λ r. ⌜ through «state-of» r ≡ «after-line» («state-of» self) line ⌝ }
     {
         if !follows(self.last, kind_of_line(line)) {

@@ -1,7 +1,6 @@
 use native.Mathlib.Omega.{arith}
-use mathlib.Core.Path.{ap, _∙_}
+use mathlib.Core.Path.{_∙_}
 use Rattle.std.proofs.shelf.Results.{err-from-errBy}
-use Rattle.sheets.specs.Reading.{faulted}
 use Rattle.sheets.specs.Views.{state-of}
 use Rattle.sheets.proofs.Turns.{turn-on, turn-fault, turn-less, turn-end}
 use Rattle.sheets.proofs.read.read_lines.Needs as need
@@ -22,12 +21,7 @@ loop-n-again c =
       omega arith,
     )
 
-pub returns-in-Ok : need.returns-in-Ok
-returns-in-Ok c =
-    ap (λ a. faulted a (c .loop-n .number)) (c .in-Ok .ensures tt)
-    ∙ turn-end (c .loop-n .number) (state-of (c .loop-n .state)) (c .loop-n .rest .now) _ (c .loop-n .inv .0) (c .in-rest .ensures tt)
-
-pub returns-in-Err : need.returns-in-Err
-returns-in-Err c =
-    ap (λ a. faulted a (c .loop-n .number)) (c .in-Err .ensures tt)
+pub returns : need.returns
+returns c =
+    c .finish .ensures
     ∙ turn-end (c .loop-n .number) (state-of (c .loop-n .state)) (c .loop-n .rest .now) _ (c .loop-n .inv .0) (c .in-rest .ensures tt)
