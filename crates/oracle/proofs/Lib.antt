@@ -1,0 +1,17 @@
+pub mod Codes
+pub mod Family
+pub mod Unrolled
+pub mod Once
+pub mod InPlace
+pub mod ParentsBefore
+pub mod Recount
+pub mod Complete
+pub mod Rises
+pub mod WalkRules
+pub mod LeadsOn
+pub mod Landing
+pub mod Counts
+pub mod HomeChain
+pub mod Crossing
+pub mod Progress
+pub mod Turns

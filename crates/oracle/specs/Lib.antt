@@ -1,0 +1,11 @@
+pub mod Setup
+pub mod Laws
+pub mod Sight
+pub mod Home
+pub mod Listing
+pub mod Walk
+pub mod Counting
+pub mod Places
+pub mod Statements
+pub mod Calls
+pub mod Outcomes
