@@ -9,7 +9,7 @@ ghost use Rattle.oracle.specs.Setup.{filled};
 ghost use Rattle.oracle.specs.Sight.{is-home};
 
 // A step by a slot below the width, counted: the return slot, or none at a vacant slot.
-pub fn cross<O: Walking>(oracle: &mut O, slot: usize, steps: &mut u64) -> Option<usize>
+pub(crate) fn cross<O: Walking>(oracle: &mut O, slot: usize, steps: &mut u64) -> Option<usize>
     requires sound { ⌜ O·Walking .sound (now oracle) ⌝ }
     requires below { ⌜ slot < O·Walking .setup (now oracle) .width ⌝ }
     ensures sound { λ _. ⌜ O·Walking .sound (now (oracle .exit)) ⌝ }
@@ -26,7 +26,7 @@ pub fn cross<O: Walking>(oracle: &mut O, slot: usize, steps: &mut u64) -> Option
 }
 
 // Whether this is the current object's home slot.
-pub fn leads_home<O: Walking>(oracle: &O, slot: usize) -> bool
+pub(crate) fn leads_home<O: Walking>(oracle: &O, slot: usize) -> bool
     requires { ⌜ O·Walking .sound (now oracle) ⌝ }
     ensures { λ r. ⌜ r ≡ is-home (O·Walking .setup (now (oracle .entry)) .home (O·Walking .current (now (oracle .entry)))) slot ⌝ }
 {
@@ -38,7 +38,7 @@ pub fn leads_home<O: Walking>(oracle: &O, slot: usize) -> bool
 
 // The step home from an object that has this home slot, counted: the parent is current then, and its
 // slot that is answered leads back.
-pub fn rise<O: Walking>(oracle: &mut O, home: usize, steps: &mut u64) -> usize
+pub(crate) fn rise<O: Walking>(oracle: &mut O, home: usize, steps: &mut u64) -> usize
     requires sound { ⌜ O·Walking .sound (now oracle) ⌝ }
     requires homed { ⌜ O·Walking .setup (now oracle) .home (O·Walking .current (now oracle)) ≡ Some home ⌝ }
     ensures sound { λ _. ⌜ O·Walking .sound (now (oracle .exit)) ⌝ }
