@@ -22,6 +22,13 @@ impl Map {
         self.n
     }
 
+    // The touch table: digit j of row i is 1 where regions i and j touch.
+    pub fn rows(&self) -> &[u64; 64]
+        ensures { λ r. ⌜ now r ≡ now (self .entry) .rows ⌝ }
+    {
+        &self.rows
+    }
+
     // Whether two regions touch; a number that names no region touches none.
     pub fn touches(&self, a: u32, b: u32) -> bool
         ensures { λ r. ⌜ r ≡ eqb (touching (now (self .entry) .rows) a b) 1 ⌝ }

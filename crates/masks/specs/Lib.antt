@@ -1,0 +1,3 @@
+pub mod Codes
+pub mod Family
+pub mod Pick

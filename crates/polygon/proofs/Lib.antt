@@ -1,0 +1,15 @@
+pub mod Words
+pub mod Ties
+pub mod Agreement
+pub mod SideRows
+pub mod FanRows
+pub mod Gathering
+pub mod Crossings
+pub mod CornerZero
+pub mod Steps
+pub mod Standing
+pub mod Holding
+pub mod Putting
+pub mod Taking
+pub mod Stepping
+pub mod Begun

@@ -1,0 +1,1 @@
+//! Triangulations of a convex polygon: what they are, and the set-up of their census.
