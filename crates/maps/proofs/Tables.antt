@@ -24,6 +24,7 @@ use Rattle.refusals.specs.declared.Refusal.{Refusal}
 use Rattle.refusals.specs.declared.Refusal.the-variants.{OutOfRange}
 use Rattle.digits.specs.Bits.{bit, count, with-digit}
 use Rattle.digits.proofs.Digits.{or-pow-same, or-pow-other, bit-zero, bit-mod, count-ext, ones-count}
+use Rattle.maps.proofs.Results.{same-ok, clash}
 use Rattle.maps.specs.Touch.{
   Regions,
   touches,
@@ -198,12 +199,6 @@ after-bad m p ps k e = ap (by-fault m p ps) e
 abbrev Grown : Regions → List (ℕ × ℕ) → Regions → ℕ → ℕ → Type 0
 Grown m ps u i j = (touches (u .rows) i j ≡ 1) ↔ ((touches (m .rows) i j ≡ 1) ⊎ Named ps i j)
 
-same-ok : {X E : Type 0} (x y : X) → _≡_ {A = Result X E} (Ok x) (Ok y) → x ≡ y
-same-ok x y e = cc
-
-clash : {X E : Type 0} (x : X) (k : E) → _≡_ {A = Result X E} (Err k) (Ok x) → ⊥
-clash x k e = let z : _≡_ {A = ℕ} 0 1 = cc in omega arith
-
 pub grown : (m : Regions) (ps : List (ℕ × ℕ)) (u : Regions) → length (m .rows) ≡ 64 → m .count-of ≤ 64
     → after-pairs m ps ≡ Ok u → (i j : ℕ) → Grown m ps u i j
 unfolding after-pairs
@@ -235,7 +230,7 @@ grown m (p ∷ ps) u l few e i j =
         let good = pair-good (m .count-of) (p .0) (p .1) f in
         chosen (touch-cases (m .rows) (p .0) (p .1) l (omega arith) (omega arith) i j)
         (ih (sym (after-good m p ps f) ∙ e))
-    go (Some k) f ih = absurd (clash u k (sym (after-bad m p ps k f) ∙ e))
+    go (Some k) f ih = (clash u k (sym (after-bad m p ps k f) ∙ e))
 
 -- what a map made of pairs means
 pub meant : (n : ℕ) (ps : List (ℕ × ℕ)) (u : Regions) → n ≤ 64
@@ -257,7 +252,7 @@ offer-taken m u a b x e = go (pair-fault (m .count-of) a b) refl
     go : (o : Option Refusal) → pair-fault (m .count-of) a b ≡ o
         → (pair-fault (m .count-of) a b ≡ None) × (u ≡ with-one m (a, b))
     go None f = (f, ap (λ r. r .1) (e ∙ ap (by-offer m a b) f))
-    go (Some k) f = absurd (clash x k (sym (ap (λ r. r .0) (e ∙ ap (by-offer m a b) f))))
+    go (Some k) f = (clash x k (sym (ap (λ r. r .0) (e ∙ ap (by-offer m a b) f))))
 
 pub offer-refused : (m u : Regions) (a b : ℕ) (k : Refusal) → (Err k, u) ≡ offered m a b
     → pair-fault (m .count-of) a b ≡ Some k
@@ -265,7 +260,7 @@ unfolding by-offer
 offer-refused m u a b k e = go (pair-fault (m .count-of) a b) refl
   where
     go : (o : Option Refusal) → pair-fault (m .count-of) a b ≡ o → pair-fault (m .count-of) a b ≡ Some k
-    go None f = absurd (clash tt k (ap (λ r. r .0) (e ∙ ap (by-offer m a b) f)))
+    go None f = (clash tt k (ap (λ r. r .0) (e ∙ ap (by-offer m a b) f)))
     go (Some k′) f =
         let same : _≡_ {A = Result (Unit {0}) Refusal} (Err k) (Err k′) = ap (λ r. r .0) (e ∙ ap (by-offer m a b) f) in
         cc
@@ -281,7 +276,7 @@ begun-is n m e = go (can-have n) refl
       same-ok m _ (e ∙ cond-true (can-have n) (Ok (record { count-of = n; rows = bare })) (Err OutOfRange) f),
     )
     go false f =
-        absurd (clash m OutOfRange (sym (e ∙ cond-false (can-have n) (Ok (record { count-of = n; rows = bare })) (Err OutOfRange) f)))
+        (clash m OutOfRange (sym (e ∙ cond-false (can-have n) (Ok (record { count-of = n; rows = bare })) (Err OutOfRange) f)))
 
 by-begun : List (ℕ × ℕ) → Result Regions Refusal → Result Regions Refusal
 by-begun ps r = elim r [ Ok m ↦ after-pairs m ps | Err k ↦ Err k ]

@@ -74,6 +74,7 @@ use Rattle.sheets.specs.Written.{
 }
 use Rattle.sheets.specs.declared.fault.Fault.{Fault}
 use Rattle.sheets.proofs.Cuts.{cut-line}
+use Rattle.sheets.proofs.Sequence.{InBody, body, in-body}
 use Rattle.sheets.proofs.Steps.{in-place, bytes-good, read-on}
 
 -- ---- written lines are cut where they were joined
@@ -121,46 +122,6 @@ read-text n s t x ls going short place set =
     read-on n s (text-of x) ls [] t
     (bytes-good s (text-of x) x going (spells (text-of x) x .1 (short, refl)) ∙ in-place s x place ∙ set)
 
--- what the body of a sheet has asked for so far: the last line's kind and the subject
-abbrev body : Kind → Topic → Settings
-body k t = record { last = Some k; topic = Some t; cap = None; most = 0 }
-
--- a kind behind which a pair, a cap or the full stop may come
-abbrev pub InBody : Kind → Type 0
-InBody kind.Regions = Unit {0}
-InBody kind.Polygon = Unit {0}
-InBody kind.Pair = Unit {0}
-InBody kind.Cap = ⊥
-InBody kind.Stop = ⊥
-
-body-open : (k : Kind) → InBody k → stopped (Some k) ≡ false
-body-open kind.Regions h = refl
-body-open kind.Polygon h = refl
-body-open kind.Pair h = refl
-body-open kind.Cap h = absurd h
-body-open kind.Stop h = absurd h
-
-body-pair : (k : Kind) → InBody k → follows (Some k) kind.Pair ≡ true
-body-pair kind.Regions h = refl
-body-pair kind.Polygon h = refl
-body-pair kind.Pair h = refl
-body-pair kind.Cap h = absurd h
-body-pair kind.Stop h = absurd h
-
-body-cap : (k : Kind) → InBody k → follows (Some k) kind.Cap ≡ true
-body-cap kind.Regions h = refl
-body-cap kind.Polygon h = refl
-body-cap kind.Pair h = refl
-body-cap kind.Cap h = absurd h
-body-cap kind.Stop h = absurd h
-
-body-stop : (k : Kind) → InBody k → follows (Some k) kind.Stop ≡ true
-body-stop kind.Regions h = refl
-body-stop kind.Polygon h = refl
-body-stop kind.Pair h = refl
-body-stop kind.Cap h = absurd h
-body-stop kind.Stop h = absurd h
-
 in-count : (c : ℕ) → c ≤ most-number → counted c ≡ Ok c
 in-count c h = cond-true (leb c most-number) (Ok c) (Err OutOfRange) (le-leb c most-number h)
 
@@ -178,10 +139,10 @@ read-stop n m s t going place e h =
 read-tail : (n m : ℕ) (k : Kind) (t : Topic) (c : Option ℕ) → InBody k → Cases c (Unit {0}) (λ h. h ≤ most-number) → m ≤ most-number
     → read-from n (body k t) (map text-of (cap-lines c ++ (Stop m ∷ []))) []
     ≡ Ok (record { topic = t; cap = valueOr c (height-of t); most = m })
-read-tail n m k t None b hc hm = read-stop n m (body k t) t (body-open k b) (body-stop k b) refl hm
+read-tail n m k t None b hc hm = read-stop n m (body k t) t (in-body k b .not-stopped) (in-body k b .then-stop) refl hm
 read-tail n m k t (Some c) b hc hm =
-    read-text n (body k t) (record { last = Some kind.Cap; topic = Some t; cap = Some c; most = 0 }) (Cap c) _ (body-open k b)
-    (omega arith) (body-cap k b) (ap (with-cap (body k t) kind.Cap) (in-count c hc))
+    read-text n (body k t) (record { last = Some kind.Cap; topic = Some t; cap = Some c; most = 0 }) (Cap c) _ (in-body k b .not-stopped)
+    (omega arith) (in-body k b .then-cap) (ap (with-cap (body k t) kind.Cap) (in-count c hc))
     ∙ read-stop (n + 1) m (record { last = Some kind.Cap; topic = Some t; cap = Some c; most = 0 }) t refl refl refl hm
 
 pub good-pair : (n a b : ℕ) → GoodPair n (a, b) → pair-fault n a b ≡ None
@@ -216,7 +177,7 @@ unfolding table-after
 read-pairs n k m [] ys w b few h rest = rest n k b
 read-pairs n k m (p ∷ ps) ys w b few h rest =
     read-text n (body k (regions m)) (body kind.Pair (regions (record { count-of = m .count-of; rows = with-pair (m .rows) (p .0) (p .1) })))
-    (pair-line p) _ (body-open k b) (omega (arith, h .0), omega (arith, h .0)) (body-pair k b)
+    (pair-line p) _ (in-body k b .not-stopped) (omega (arith, h .0), omega (arith, h .0)) (in-body k b .then-pair)
     (ap (with-topic (body k (regions m)) kind.Pair) (pair-set m (p .0) (p .1) (good-pair (m .count-of) (p .0) (p .1) (h .0))))
     ∙ read-pairs (n + 1) kind.Pair (record { count-of = m .count-of; rows = with-pair (m .rows) (p .0) (p .1) }) ps ys w tt few (h .1) rest
 

@@ -27,6 +27,7 @@ use Rattle.items.specs.declared.line.Line.the-variants.{Regions, Polygon, Pair,
 use Rattle.items.proofs.Texts.{spells}
 use Rattle.maps.specs.Touch as touch
 use Rattle.maps.specs.Touch.{bare, begun, with-pair, pair-fault, after-pairs, Touching}
+use Rattle.maps.proofs.Results.{same-ok, clash}
 use Rattle.maps.proofs.Tables.{begun-is, pair-good, after-good, meant}
 use Rattle.sheets.specs.Cut.{Cut, cut, in-front}
 use Rattle.sheets.specs.Laws.{Accepting, Asked, Meant}
@@ -71,14 +72,9 @@ use Rattle.sheets.specs.Written.{
   wanted-for,
 }
 use Rattle.sheets.specs.declared.fault.Fault.{Fault}
-use Rattle.sheets.proofs.Accepts.{InBody, good-pair, pair-set, pair-unset, read-short, read-long, reads-written}
+use Rattle.sheets.proofs.Accepts.{good-pair, pair-set, pair-unset, read-short, read-long, reads-written}
+use Rattle.sheets.proofs.Sequence.{InBody, body, in-body, never-again, no-true}
 use Rattle.sheets.proofs.Steps.{in-place, out-of-place, bytes-stopped, bytes-bad, bytes-good, read-on, read-fault}
-
-clash : {X E Y : Type 0} (x : X) (k : E) → _≡_ {A = Result X E} (Err k) (Ok x) → Y
-clash x k e = absurd (let z : _≡_ {A = ℕ} 0 1 = cc in omega arith)
-
-same-ok : {X E : Type 0} (x y : X) → _≡_ {A = Result X E} (Ok x) (Ok y) → x ≡ y
-same-ok x y e = cc
 
 -- ---- the lines of a sheet, joined, are the sheet
 
@@ -177,9 +173,6 @@ count-of c d e = go (leb c most-number) refl
     go true f = (leb-true c most-number f, same-ok c d (sym (cond-true (leb c most-number) (Ok c) (Err OutOfRange) f) ∙ e))
     go false f = clash d OutOfRange (sym (cond-false (leb c most-number) (Ok c) (Err OutOfRange) f) ∙ e)
 
-no-true : {Y : Type 0} → false ≡ true → Y
-no-true e = absurd (let z : _≡_ {A = ℕ} 0 1 = cc in omega arith)
-
 -- behind the full stop no line comes, and the plan is what was set
 ended : (s : Settings) (t : Topic) (xs : List Line) (w : Wanted) → stopped (s .last) ≡ true → s .topic ≡ Some t → Run s xs w
     → (xs ≡ []) × (record { topic = t; cap = valueOr (s .cap) (height-of t); most = s .most } ≡ w)
@@ -229,27 +222,6 @@ Rest t xs w =
     (c : Option ℕ) × Cases c (Unit {0}) (λ h. h ≤ most-number) × (m : ℕ) × (m ≤ most-number)
     × (xs ≡ cap-lines c ++ (Stop m ∷ [])) × (record { topic = t; cap = valueOr c (height-of t); most = m } ≡ w)
 
-abbrev body : Kind → Topic → Settings
-body k t = record { last = Some k; topic = Some t; cap = None; most = 0 }
-
-body-subject : (k : Kind) → InBody k → (j : Kind) → follows (Some j) kind.Regions ≡ false
-body-subject k h kind.Regions = refl
-body-subject k h kind.Polygon = refl
-body-subject k h kind.Pair = refl
-body-subject k h kind.Cap = refl
-body-subject k h kind.Stop = refl
-
-body-open : (k : Kind) → InBody k → stopped (Some k) ≡ false
-body-open kind.Regions h = refl
-body-open kind.Polygon h = refl
-body-open kind.Pair h = refl
-body-open kind.Cap h = absurd h
-body-open kind.Stop h = absurd h
-
-never-again : (j : Kind) (x : Kind) → (x ≡ kind.Regions) ⊎ (x ≡ kind.Polygon) → follows (Some j) x ≡ false
-never-again j x (inl e) = ap (follows (Some j)) e ∙ body-subject kind.Pair tt j
-never-again j x (inr e) = ap (follows (Some j)) e ∙ body-subject kind.Pair tt j
-
 at-cap : (k : Kind) (t : Topic) (u : Settings) (c : ℕ) (xs : List Line) (w : Wanted)
     → with-cap (body k t) kind.Cap (counted c) ≡ Ok u → Run u xs w → Rest t (Cap c ∷ xs) w
 at-cap k t u c xs w f h = go (counted c) refl
@@ -272,13 +244,13 @@ at-body-stop k t u m xs w f h =
 short-body : (k : Kind) → InBody k → (t : Topic) (w : Wanted) {Y : Type 0} → at-end (body k t) [] ≡ Ok w → Y
 short-body k b t w h =
     clash w SheetShort
-    (ap (λ v. elim v as (λ _. Result Wanted Refusal) [ true ↦ wanted-by (body k t) (Some t) | false ↦ Err SheetShort ]) (sym (body-open k b)) ∙ h)
+    (ap (λ v. elim v as (λ _. Result Wanted Refusal) [ true ↦ wanted-by (body k t) (Some t) | false ↦ Err SheetShort ]) (sym (in-body k b .not-stopped)) ∙ h)
 
 -- a polygon takes no pairs
 polygon-rest : (k : Kind) (n : ℕ) (xs : List Line) (w : Wanted) → InBody k → Run (body k (polygon n)) xs w → Rest (polygon n) xs w
 polygon-rest k n [] w b h = short-body k b (polygon n) w h
-polygon-rest k n (Regions m ∷ xs) w b h = no-true (sym (never-again k kind.Regions (inl refl)) ∙ placed _ (h .0) (Regions m) (h .2) .0)
-polygon-rest k n (Polygon m ∷ xs) w b h = no-true (sym (never-again k kind.Polygon (inr refl)) ∙ placed _ (h .0) (Polygon m) (h .2) .0)
+polygon-rest k n (Regions m ∷ xs) w b h = no-true (sym (never-again k .0) ∙ placed _ (h .0) (Regions m) (h .2) .0)
+polygon-rest k n (Polygon m ∷ xs) w b h = no-true (sym (never-again k .1) ∙ placed _ (h .0) (Polygon m) (h .2) .0)
 polygon-rest k n (Pair a c ∷ xs) w b h = clash (h .0) _ (placed _ (h .0) (Pair a c) (h .2) .1)
 polygon-rest k n (Cap c ∷ xs) w b h = at-cap k (polygon n) (h .0) c xs w (placed _ (h .0) (Cap c) (h .2) .1) (h .3)
 polygon-rest k n (Stop m ∷ xs) w b h = at-body-stop k (polygon n) (h .0) m xs w (placed _ (h .0) (Stop m) (h .2) .1) (h .3)
@@ -305,8 +277,8 @@ one-pair m a b xs w good h =
 
 regions-rest : (k : Kind) (m : touch.Regions) (xs : List Line) (w : Wanted) → InBody k → Run (body k (regions m)) xs w → Pairs m xs w
 regions-rest k m [] w b h = short-body k b (regions m) w h
-regions-rest k m (Regions n ∷ xs) w b h = no-true (sym (never-again k kind.Regions (inl refl)) ∙ placed _ (h .0) (Regions n) (h .2) .0)
-regions-rest k m (Polygon n ∷ xs) w b h = no-true (sym (never-again k kind.Polygon (inr refl)) ∙ placed _ (h .0) (Polygon n) (h .2) .0)
+regions-rest k m (Regions n ∷ xs) w b h = no-true (sym (never-again k .0) ∙ placed _ (h .0) (Regions n) (h .2) .0)
+regions-rest k m (Polygon n ∷ xs) w b h = no-true (sym (never-again k .1) ∙ placed _ (h .0) (Polygon n) (h .2) .0)
 regions-rest k m (Pair a c ∷ xs) w b h =
     go (pair-fault (m .count-of) a c) refl (λ r. regions-rest kind.Pair (with-one m a c) xs w tt r)
   where

@@ -1,3 +1,4 @@
+pub mod Sequence
 pub mod Steps
 pub mod Cuts
 pub mod Turns

@@ -65,15 +65,11 @@ use Rattle.sheets.specs.Settings.{
   most-number,
 }
 use Rattle.sheets.specs.declared.fault.Fault.{Fault}
+use Rattle.maps.proofs.Results.{same-ok, clash}
 use Rattle.maps.proofs.Tables.{begun-is}
 use Rattle.sheets.proofs.Accepts.{pair-set, pair-unset, read-short, read-long}
+use Rattle.sheets.proofs.Sequence.{never-again, no-true}
 use Rattle.sheets.proofs.Steps.{in-place, out-of-place, bytes-stopped, bytes-bad, bytes-good, read-on, read-fault}
-
-clash : {X E Y : Type 0} (x : X) (k : E) → _≡_ {A = Result X E} (Err k) (Ok x) → Y
-clash x k e = absurd (let z : _≡_ {A = ℕ} 0 1 = cc in omega arith)
-
-same-ok : {X E : Type 0} (x y : X) → _≡_ {A = Result X E} (Ok x) (Ok y) → x ≡ y
-same-ok x y e = cc
 
 -- ---- the fault of one line, from what the settings know of the lines before
 
@@ -333,16 +329,6 @@ last-push (b ∷ []) l = refl
 last-push (b ∷ (c ∷ before)) l = last-push (c ∷ before) l
 
 -- behind other lines the subject does not change
-no-true : {Y : Type 0} → false ≡ true → Y
-no-true e = absurd (let z : _≡_ {A = ℕ} 0 1 = cc in omega arith)
-
-never-again : (j : Kind) → (follows (Some j) kind.Regions ≡ false) × (follows (Some j) kind.Polygon ≡ false)
-never-again kind.Regions = (refl, refl)
-never-again kind.Polygon = (refl, refl)
-never-again kind.Pair = (refl, refl)
-never-again kind.Cap = (refl, refl)
-never-again kind.Stop = (refl, refl)
-
 abbrev Kept : Option Topic → Option Topic → Type 0
 Kept o u = (topic-size u ≡ topic-size o) × (topic-polygon u ≡ topic-polygon o) × (isSome o ≡ true → isSome u ≡ true)
 
