@@ -10,7 +10,7 @@ use Rattle.triangulations.specs.Codes.{members, code-of}
 use Rattle.triangulations.specs.Textbook.{PairSet}
 use Rattle.polygon.specs.Laws.{set-of-small, whole-triangulation}
 use Rattle.polygon.specs.Rows.{set-of}
-use Rattle.polygon.specs.declared.polygon.Polygon.{Polygon}
+use Rattle.polygon.specs.declared.subject.Polygon.{Polygon}
 use Rattle.polygon.proofs.Ties.{Kept}
 
 abbrev pub current-set : Polygon → PairSet

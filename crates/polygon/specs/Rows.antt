@@ -1,5 +1,5 @@
 -- Adjacency rows: digit b of row a is 1 where the corners a and b are joined by a side or a diagonal.
-use Prim.Native.Nat.{ℕ, _+_, _-_, _^_}
+use Prim.Native.Nat.{ℕ, _+_, _-_, _/_, _^_}
 use lib.Bits.{bitAnd, bitXor}
 use lib.Count.{trailingZeros}
 use lib.Dec.{eqb}
@@ -41,6 +41,10 @@ common rows a b = bitAnd (getD rows a 0) (getD rows b 0)
 
 abbrev pub two-lowest : ℕ → ℕ × ℕ
 two-lowest s = (trailingZeros 32 s, trailingZeros 32 (bitAnd s (s - 1)))
+
+-- The lowest digit of a word, and the lowest digit of a row from there on.
+abbrev pub gap-of : ℕ → ℕ → ℕ × ℕ
+gap-of apart row = (trailingZeros 32 apart, trailingZeros 32 apart + trailingZeros 32 (row / 2 ^ trailingZeros 32 apart))
 
 -- The word of the corners a to b.
 abbrev pub span : ℕ → ℕ → ℕ

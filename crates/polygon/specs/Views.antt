@@ -10,7 +10,7 @@ use Rattle.oracle.specs.Setup.{Code, Setup}
 use Rattle.triangulations.specs.Census.{polygon}
 use Rattle.triangulations.specs.Codes.{code-of}
 use Rattle.polygon.specs.Rows.{set-of}
-use Rattle.polygon.specs.declared.polygon.Polygon.{Polygon}
+use Rattle.polygon.specs.declared.subject.Polygon.{Polygon}
 
 -- The code of the current triangulation.
 abbrev pub current-of : Polygon → Code

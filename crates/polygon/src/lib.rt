@@ -1,10 +1,10 @@
 //! Triangulations of a convex polygon as an adjacency oracle.
-mod coded;
+mod coding;
 mod making;
-mod polygon;
 mod rows;
+mod subject;
 mod walking;
 
-pub use coded::PolygonCoded;
-pub use polygon::Polygon;
+pub use coding::PolygonCoded;
+pub use subject::Polygon;
 pub use walking::PolygonWalking;

@@ -1,13 +1,14 @@
+//! Making a polygon, and asking for a pair of its current set.
 ghost use mathlib.Core.Path.{_≡_};
 ghost use Prim.Native.Nat.{_≤_};
 ghost use lib.Dec.{eqb};
 ghost use Rattle.polygon.specs.Rows.{«set-of»};
 ghost use Rattle.polygon.specs.Views.{begun, seen};
 ghost use Rattle.triangulations.specs.Statements.{Stands};
-use super::polygon::Polygon;
 use super::rows::are_joined;
 use super::rows::fan_rows;
 use super::rows::is_diagonal;
+use super::subject::Polygon;
 use pairs::corners;
 use refusals::Refusal;
 

@@ -1,9 +1,10 @@
 //! Adjacency rows: digit b of row a is 1 where the corners a and b are joined by a side or a diagonal.
 ghost use mathlib.Core.Path.{_≡_};
 ghost use Prim.Native.Nat.{ℕ, _<_, _≤_};
+ghost use lib.Count.{trailingZeros};
 ghost use lib.Dec.{eqb};
 ghost use Rattle.digits.specs.Bits.{bit};
-ghost use Rattle.polygon.specs.Rows.{linked, Tied, bare, switched, common, «two-lowest», «stays-within», «is-free»};
+ghost use Rattle.polygon.specs.Rows.{linked, Tied, bare, switched, common, «two-lowest», «gap-of», «stays-within», «is-free»};
 ghost use Rattle.triangulations.specs.Moves.{joined, fan};
 ghost use Rattle.triangulations.specs.Polygon.{«is-diagonal»};
 
@@ -78,6 +79,15 @@ pub(crate) fn apexes(rows: &[u32; 24], a: u32, b: u32) -> (u32, u32)
 {
     let both = rows[a as usize] & rows[b as usize];
     (both.trailing_zeros(), (both & (both - 1)).trailing_zeros())
+}
+
+// The first of the corners that are apart from corner 0, and the next one that is in the row of corner 0.
+pub(crate) fn first_gap(apart: u32, row: u32) -> (u32, u32)
+    requires { ⌜ trailingZeros 32 apart < 32 ⌝ }
+    ensures { λ r. ⌜ r ≡ «gap-of» apart row ⌝ }
+{
+    let first = apart.trailing_zeros();
+    (first, first + (row >> first).trailing_zeros())
 }
 
 // Whether corner c is joined to none but the corners a to b.

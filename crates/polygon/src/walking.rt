@@ -1,10 +1,12 @@
+//! Walking over the triangulations.
 ghost use Rattle.polygon.specs.Laws.{«whole-stands»};
 ghost use Rattle.polygon.specs.Views.{«current-of»};
 ghost use Rattle.triangulations.proofs.Laws.{«polygon-lawful»};
 ghost use Rattle.triangulations.specs.Census.{polygon};
-use super::polygon::Polygon;
 use super::rows::apexes;
+use super::rows::first_gap;
 use super::rows::switch;
+use super::subject::Polygon;
 use oracle::step::Step;
 use oracle::walking::Walking;
 use pairs::corners;
@@ -44,8 +46,7 @@ pub impl Walking for Polygon as PolygonWalking {
         if apart == 0 {
             return None;
         }
-        let first = apart.trailing_zeros();
-        let next = first + (self.rows[0] >> first).trailing_zeros();
+        let (first, next) = first_gap(apart, self.rows[0]);
         Some(pair_number(first - 1, next))
     }
 

@@ -18,8 +18,9 @@ use Rattle.std.specs.Orderings.{Decides}
 use Rattle.std.specs.shelf.Lists.{All}
 use Rattle.digits.proofs.Digits.{bit-small, bit-zero, bit-mod, same-bits}
 use Rattle.digits.specs.Bits.{bit, count}
+use Rattle.masks.specs.Codes.{all-bytes}
 use Rattle.oracle.specs.Setup.{Code}
-use Rattle.triangulations.specs.Codes.{members, byte-of, code-of, Row, all-bytes, is-row}
+use Rattle.triangulations.specs.Codes.{members, byte-of, code-of, Row, is-row}
 use Rattle.triangulations.specs.Textbook.{PairSet}
 use Rattle.triangulations.proofs.Drawing.{Small}
 

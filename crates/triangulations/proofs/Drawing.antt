@@ -62,7 +62,7 @@ module _ (n : ℕ) (S : PairSet) (large : 3 ≤ n) (few : n ≤ 24) (small : Sma
     unfolding crossing
     drawn-full a b h i z = go (kind n a b)
       where
-        found : Found 0 (pair-count n) (crossing a b) → Crossed (edge n S) a b
+        found : Found (pair-count n) (crossing a b) → Crossed (edge n S) a b
         found f =
             let both = and-parts (eqb (S (f .place)) 1) (crosses (a, b) (corners-of (f .place))) (f .passes) in
             record {
@@ -72,28 +72,28 @@ module _ (n : ℕ) (S : PairSet) (large : 3 ≤ n) (few : n ≤ 24) (small : Sma
               how = crosses-decides (a, b) (corners-of (f .place)) .0 (both .1);
             }
 
-        below : (f : ℕ) → S f ≡ 1 → f < 0 + pair-count n
+        below : (f : ℕ) → S f ≡ 1 → f < pair-count n
         below f e =
             let d = t .only-diagonals f e in
             let m = diagonal-numbered n f d in
             omega (arith, number-below (corners-of f .0) (corners-of f .1) n (d .0) (d .1))
 
-        free : Diagonal n (a, b) → Nowhere 0 (pair-count n) (crossing a b) → S (number a b) ≡ 1
+        free : Diagonal n (a, b) → Nowhere (pair-count n) (crossing a b) → S (number a b) ≡ 1
         free d w =
             let same = corners-pair n S few a b h i in
             t .none-missing (number a b) (subst (λ (p : ℕ × ℕ). Diagonal n p) (sym same) d)
             (λ f e x.
-            both-ways (crossing a b f) (w .none f (omega arith) (below f e))
+            both-ways (crossing a b f) (w .none f (below f e))
             (and-from (eqb (S f) 1) (crosses (a, b) (corners-of f)) (eq-eqb (S f) 1 e)
             (crosses-decides (a, b) (corners-of f) .1 (subst (λ (p : ℕ × ℕ). Cross p (corners-of f)) same x))))
 
-        search-all : Diagonal n (a, b) → Found 0 (pair-count n) (crossing a b) ⊎ Nowhere 0 (pair-count n) (crossing a b) → Crossed (edge n S) a b
+        search-all : Diagonal n (a, b) → Found (pair-count n) (crossing a b) ⊎ Nowhere (pair-count n) (crossing a b) → Crossed (edge n S) a b
         search-all d (inl f) = found f
         search-all d (inr w) = absurd (omega (arith, edge-member n S a b d, free d w))
 
         go : Kind n a b → Crossed (edge n S) a b
         go (a-side p q s) = absurd (omega (arith, edge-side n S a b p q s))
-        go (a-diagonal d) = search-all d (least-cases 0 (pair-count n) (crossing a b))
+        go (a-diagonal d) = search-all d (least-cases (pair-count n) (crossing a b))
         go (no-pair p) = absurd (p h i)
 
     pub drawing : Drawn n (edge n S)

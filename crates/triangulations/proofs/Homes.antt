@@ -9,6 +9,7 @@ use Rattle.std.proofs.shelf.Tests.{cases-order, cases-lt, both-ways}
 use Rattle.std.proofs.shelf.Ways.{decides-eqb, decides-ltb, decides-and, decides-like}
 use Rattle.std.specs.Orderings.{Decides}
 use Rattle.std.specs.declared.option.Option.the-variants.{Some, None}
+use Rattle.masks.proofs.Pick.{least-is}
 use Rattle.pairs.specs.Pairs.{number, corners-of, pair-count}
 use Rattle.pairs.proofs.Numbers.{number-below, number-later}
 use Rattle.triangulations.specs.Moves.{edge, joined, leads-home, home-slot}
@@ -19,7 +20,7 @@ use Rattle.triangulations.proofs.Drawing.{Small, member-edge, corners-pair, dr
 use Rattle.triangulations.proofs.Drawings.{Drawn}
 use Rattle.triangulations.proofs.Edges.{Inner, inner, diagonal-from, diagonal-numbered, edge-member, joined-up}
 use Rattle.triangulations.proofs.Gaps.{Gap, Full, gap-closed, gap-after, full-fan}
-use Rattle.triangulations.proofs.Searches.{Found, Nowhere, least-cases, least-is, some-is, some-not-none}
+use Rattle.triangulations.proofs.Searches.{Found, Nowhere, least-cases, some-is, some-not-none}
 
 -- pair e is a member away from corner 0, and its corners are joined to corner 0
 pub record Homeward (n : ℕ) (S : PairSet) (e : ℕ) : Type 0 where
@@ -104,9 +105,8 @@ module _ (n : ℕ) (S : PairSet) (large : 3 ≤ n) (few : n ≤ 24) (small : Sma
       → home-slot n S ≡ Some (number (i - 1) b)
   unfolding home-slot number
   home-first i h l z before b k m o none =
-      least-is (pair-count n) (leads-home n S) (number (i - 1) b) (gap-below (i - 1) b p)
+      least-is (leads-home n S) (pair-count n) (number (i - 1) b) (gap-below (i - 1) b p) (λ e q. not-before e q (leads-home n S e) refl)
       (homeward-decides n S (t .only-diagonals) (number (i - 1) b) .1 (gap-homeward (i - 1) b p))
-      (λ e q. not-before e q (leads-home n S e) refl)
     where
       p : Gap n (edge n S) (i - 1) b
       p = gap-after n (edge n S) g i h l z before b k m o none
@@ -142,9 +142,9 @@ module _ (n : ℕ) (S : PairSet) (large : 3 ≤ n) (few : n ≤ 24) (small : Sma
   -- what the search finds
   pub home-homeward : (h : ℕ) → home-slot n S ≡ Some h → Homeward n S h × (h < pair-count n)
   unfolding home-slot
-  home-homeward h e = go (least-cases 0 (pair-count n) (leads-home n S))
+  home-homeward h e = go (least-cases (pair-count n) (leads-home n S))
     where
-      go : Found 0 (pair-count n) (leads-home n S) ⊎ Nowhere 0 (pair-count n) (leads-home n S) → Homeward n S h × (h < pair-count n)
+      go : Found (pair-count n) (leads-home n S) ⊎ Nowhere (pair-count n) (leads-home n S) → Homeward n S h × (h < pair-count n)
       go (inl f) =
           let same = some-is (home-slot n S) (f .place) h (f .is) e in
           subst (λ (x : ℕ). Homeward n S x × (x < pair-count n)) same
@@ -153,20 +153,20 @@ module _ (n : ℕ) (S : PairSet) (large : 3 ≤ n) (few : n ≤ 24) (small : Sma
 
   pub home-from : (e : ℕ) → Homeward n S e → (h : ℕ) × (home-slot n S ≡ Some h)
   unfolding home-slot
-  home-from e x = go (least-cases 0 (pair-count n) (leads-home n S))
+  home-from e x = go (least-cases (pair-count n) (leads-home n S))
     where
-      go : Found 0 (pair-count n) (leads-home n S) ⊎ Nowhere 0 (pair-count n) (leads-home n S) → (h : ℕ) × (home-slot n S ≡ Some h)
+      go : Found (pair-count n) (leads-home n S) ⊎ Nowhere (pair-count n) (leads-home n S) → (h : ℕ) × (home-slot n S ≡ Some h)
       go (inl f) = (f .place, f .is)
       go (inr f) =
           absurd
-          (both-ways (leads-home n S e) (f .none e (omega arith) (omega (arith, diagonal-below n e (t .only-diagonals e (x .member)))))
+          (both-ways (leads-home n S e) (f .none e (omega (arith, diagonal-below n e (t .only-diagonals e (x .member)))))
           (homeward-decides n S (t .only-diagonals) e .1 x))
 
   pub home-none : ((e : ℕ) → Homeward n S e → ⊥) → home-slot n S ≡ None
   unfolding home-slot
-  home-none never = go (least-cases 0 (pair-count n) (leads-home n S))
+  home-none never = go (least-cases (pair-count n) (leads-home n S))
     where
-      go : Found 0 (pair-count n) (leads-home n S) ⊎ Nowhere 0 (pair-count n) (leads-home n S) → home-slot n S ≡ None
+      go : Found (pair-count n) (leads-home n S) ⊎ Nowhere (pair-count n) (leads-home n S) → home-slot n S ≡ None
       go (inl f) = absurd (never (f .place) (homeward-decides n S (t .only-diagonals) (f .place) .0 (f .passes)))
       go (inr f) = f .is
 

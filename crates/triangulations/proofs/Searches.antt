@@ -2,12 +2,14 @@
 use mathlib.Core.Path.{_≡_, refl, sym, ap, _∙_}
 use mathlib.Core.Bool.{Bool, true, false}
 use mathlib.Core.Logic.{_⊎_, inl, inr}
-use Prim.Native.Nat.{ℕ, zero, suc, _+_, _<_, _≤_}
+use Prim.Native.Nat.{ℕ, zero, suc, _+_, _<_}
 use native.Mathlib.Omega.{arith}
 use Rattle.std.proofs.shelf.Tests.{cases-order, both-ways}
 use Rattle.std.specs.declared.option.Option.{Option}
 use Rattle.std.specs.declared.option.Option.the-variants.{Some, None}
-use Rattle.triangulations.specs.Search.{every, least-from, least}
+use Rattle.masks.proofs.Pick.{least-some, least-is, least-found}
+use Rattle.masks.specs.Pick.{least}
+use Rattle.triangulations.specs.Search.{every}
 
 -- ---- every
 
@@ -54,84 +56,44 @@ every-not k f i l e = go (every k f) refl
     go true t = absurd (both-ways (f i) e (every-each k f t i l))
     go false t = t
 
--- ---- the least
-
--- j is the least of the k numbers from i on that passes
-pub record Found (i k : ℕ) (f : ℕ → Bool) : Type 0 where
-  pub place : ℕ
-  pub from : i ≤ place
-  pub below : place < i + k
-  pub passes : f place ≡ true
-  pub first : (m : ℕ) → i ≤ m → m < place → f m ≡ false
-  pub is : least-from i k f ≡ Some place
-
-pub record Nowhere (i k : ℕ) (f : ℕ → Bool) : Type 0 where
-  pub none : (m : ℕ) → i ≤ m → m < i + k → f m ≡ false
-  pub is : least-from i k f ≡ None
-
-pub least-cases : (i k : ℕ) (f : ℕ → Bool) → Found i k f ⊎ Nowhere i k f
-unfolding least-from
-least-cases i zero f = inr (record { none = λ m l h. absurd (omega arith); is = refl })
-least-cases i (suc k) f = go (f i) refl (least-cases (i + 1) k f)
-  where
-    turn : (b : Bool) → f i ≡ b → least-from i (suc k) f ≡ (elim b [ true ↦ Some i | false ↦ least-from (i + 1) k f ])
-    turn b e = ap (λ (x : Bool). elim x [ true ↦ Some i | false ↦ least-from (i + 1) k f ]) e
-
-    here : f i ≡ false → (m : ℕ) → i ≤ m → (i + 1 ≤ m → f m ≡ false) → (m ≡ i) ⊎ ((m < i) ⊎ (i < m)) → f m ≡ false
-    here e m l rest (inl s) = ap f s ∙ e
-    here e m l rest (inr (inl s)) = absurd (omega arith)
-    here e m l rest (inr (inr s)) = rest (omega arith)
-
-    later : f i ≡ false → Found (i + 1) k f ⊎ Nowhere (i + 1) k f → Found i (suc k) f ⊎ Nowhere i (suc k) f
-    later e (inl t) =
-        inl
-        (record {
-          place = t .place;
-          from = omega (arith, t .from);
-          below = omega (arith, t .below);
-          passes = t .passes;
-          first = λ m l h. here e m l (λ q. t .first m q h) (cases-order m i);
-          is = turn false e ∙ t .is;
-        })
-    later e (inr t) =
-        inr (record { none = λ m l h. here e m l (λ q. t .none m q (omega arith)) (cases-order m i); is = turn false e ∙ t .is })
-
-    go : (b : Bool) → f i ≡ b → Found (i + 1) k f ⊎ Nowhere (i + 1) k f → Found i (suc k) f ⊎ Nowhere i (suc k) f
-    go true e rest =
-        inl
-        (record {
-          place = i;
-          from = omega arith;
-          below = omega arith;
-          passes = e;
-          first = λ m l h. absurd (omega arith);
-          is = turn true e;
-        })
-    go false e rest = later e rest
-
--- what passes and has nothing before it is found
-pub least-is : (k : ℕ) (f : ℕ → Bool) (j : ℕ) → j < k → f j ≡ true → ((m : ℕ) → m < j → f m ≡ false) → least k f ≡ Some j
-least-is k f j l e h = go (least-cases 0 k f)
-  where
-    same : (t : Found 0 k f) → (t .place ≡ j) ⊎ ((t .place < j) ⊎ (j < t .place)) → least k f ≡ Some j
-    same t (inl s) = t .is ∙ ap Some s
-    same t (inr (inl s)) = absurd (both-ways (f (t .place)) (h (t .place) s) (t .passes))
-    same t (inr (inr s)) = absurd (both-ways (f j) (t .first j (omega arith) s) e)
-
-    go : Found 0 k f ⊎ Nowhere 0 k f → least k f ≡ Some j
-    go (inl t) = same t (cases-order (t .place) j)
-    go (inr t) = absurd (both-ways (f j) (t .none j (omega arith) (omega arith)) e)
-
--- the one that passes is found
-pub least-only : (k : ℕ) (f : ℕ → Bool) (j : ℕ) → j < k → f j ≡ true → ((m : ℕ) → m < k → f m ≡ true → m ≡ j) → least k f ≡ Some j
-least-only k f j l e h = least-is k f j l e (λ m q. other m q (f m) refl)
-  where
-    other : (m : ℕ) → m < j → (b : Bool) → f m ≡ b → f m ≡ false
-    other m q true p = absurd (omega (arith, h m (omega arith) p))
-    other m q false p = p
+-- ---- options
 
 pub some-is : (o : Option ℕ) (i j : ℕ) → o ≡ Some i → o ≡ Some j → i ≡ j
 some-is o i j e f = cc
 
 pub some-not-none : (o : Option ℕ) (i : ℕ) → o ≡ Some i → o ≡ None → ⊥
 some-not-none o i e f = let z : _≡_ {A = ℕ} 0 1 = cc in omega arith
+
+-- ---- the least
+
+-- the least number below k that passes is found, or none passes
+pub record Found (k : ℕ) (f : ℕ → Bool) : Type 0 where
+  pub place : ℕ
+  pub below : place < k
+  pub passes : f place ≡ true
+  pub is : least f k ≡ Some place
+
+pub record Nowhere (k : ℕ) (f : ℕ → Bool) : Type 0 where
+  pub none : (m : ℕ) → m < k → f m ≡ false
+  pub is : least f k ≡ None
+
+pub least-cases : (k : ℕ) (f : ℕ → Bool) → Found k f ⊎ Nowhere k f
+least-cases k f = go (least f k) refl
+  where
+    fails : least f k ≡ None → (m : ℕ) → m < k → (b : Bool) → f m ≡ b → f m ≡ false
+    fails e m l true p = let (i, q) = least-found f k m l p in absurd (some-not-none (least f k) i q e)
+    fails e m l false p = p
+
+    go : (o : Option ℕ) → least f k ≡ o → Found k f ⊎ Nowhere k f
+    go None e = inr (record { none = λ m l. fails e m l (f m) refl; is = e })
+    go (Some i) e =
+        let x = least-some f k i e in
+        inl (record { place = i; below = x .0; passes = x .1; is = e })
+
+-- the one that passes is found
+pub least-only : (k : ℕ) (f : ℕ → Bool) (j : ℕ) → j < k → f j ≡ true → ((m : ℕ) → m < k → f m ≡ true → m ≡ j) → least f k ≡ Some j
+least-only k f j l e h = least-is f k j l (λ m q. other m q (f m) refl) e
+  where
+    other : (m : ℕ) → m < j → (b : Bool) → f m ≡ b → f m ≡ false
+    other m q true p = absurd (omega (arith, h m (omega arith) p))
+    other m q false p = p

@@ -1,40 +1,25 @@
 -- The censuses of the polygons with three, four and five corners, computed: the codes in the order of the
 -- list, and the steps of the walks of all places.
 use Prim.Native.Nat.{ℕ, _+_, _*_}
-use lib.Dec.{isLe}
-use lib.ListN.{length, replicate}
+use lib.ListN.{replicate}
 use mathlib.Core.Bool.{true, false}
-use mathlib.Core.List.{List, [], _∷_}
+use mathlib.Core.List.{[], _∷_}
 use mathlib.Core.Path.{_≡_, refl}
 use Rattle.digits.specs.Bits.{bit, count}
 use Rattle.oracle.specs.Counting.{total, filled-count, filled-from}
 use Rattle.oracle.specs.Listing.{child-before, children-from, children, listed, list-of, listing}
 use Rattle.oracle.specs.Places.{objects, filled-slots}
 use Rattle.oracle.specs.Setup.{Code}
-use Rattle.oracle.specs.Sight.{is-home, sight-of, seen}
+use Rattle.oracle.specs.Sight.{sight-of, seen}
+use Rattle.masks.specs.Pick.{pick}
 use Rattle.pairs.specs.Pairs.{pair-count, number, pairs-below, corners-of}
 use Rattle.triangulations.specs.Census.{polygon, slot-of, slot-to, is-object}
-use Rattle.triangulations.specs.Codes.{members, byte-of, code-of, all-bytes, is-row}
-use Rattle.triangulations.specs.Moves.{
-  edge,
-  joined,
-  triangle,
-  between,
-  beyond,
-  inside,
-  outside,
-  pair-of,
-  replacement,
-  exchanged,
-  leads-home,
-  home-slot,
-  off-corner,
-  rank-of,
-  fan,
-}
+use Rattle.masks.specs.Codes.{all-bytes}
+use Rattle.triangulations.specs.Codes.{members, byte-of, code-of, is-row}
+use Rattle.triangulations.specs.Moves.{edge, joined, triangle, between, beyond, inside, outside, pair-of, replacement, exchanged, leads-home, home-slot, off-corner, rank-of, fan}
 use Rattle.triangulations.specs.Objects.{uncrossed, belongs, placed, is-triangulation}
 use Rattle.triangulations.specs.Polygon.{is-side, is-diagonal, crosses}
-use Rattle.triangulations.specs.Search.{every, least-from}
+use Rattle.triangulations.specs.Search.{every}
 
 -- a code whose first two bytes are a and b
 abbrev code : ℕ → ℕ → Code
@@ -42,7 +27,7 @@ code a b = a ∷ b ∷ replicate 33 0
 
 -- all that the censuses compute with
 computed : ℕ
-unfolding pair-count number pairs-below corners-of bit count slot-of slot-to members byte-of code-of edge joined triangle between beyond inside outside pair-of replacement exchanged leads-home home-slot off-corner rank-of fan is-side is-diagonal crosses least-from child-before children-from children listed list-of sight-of seen total filled-count filled-from
+unfolding pair-count number pairs-below corners-of bit count slot-of slot-to members byte-of code-of edge joined triangle between beyond inside outside pair-of replacement exchanged leads-home home-slot off-corner rank-of fan is-side is-diagonal crosses pick child-before children-from children listed list-of sight-of seen total filled-count filled-from
 computed = 0
 
 -- {}

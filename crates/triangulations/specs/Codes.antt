@@ -1,14 +1,15 @@
 -- The code of a set of pairs: 35 bytes, pair e being bit e mod 8, from the lowest, of byte e / 8 rounded
 -- down.
 use Prim.Native.Nat.{ℕ, _+_, _*_, _/_, _%_, _^_, _<_}
-use lib.Dec.{eqb, ltb}
+use lib.Dec.{eqb}
 use lib.ListN.{length, getD}
-use mathlib.Core.Bool.{Bool, true, _&&_}
-use mathlib.Core.List.{[], _∷_, map}
+use mathlib.Core.Bool.{Bool, _&&_}
+use mathlib.Core.List.{map}
 use mathlib.Core.Path.{_≡_}
 use Rattle.std.specs.Iters.{counting}
 use Rattle.std.specs.shelf.Lists.{All}
 use Rattle.digits.specs.Bits.{bit, count}
+use Rattle.masks.specs.Codes.{all-bytes}
 use Rattle.oracle.specs.Setup.{Code}
 use Rattle.triangulations.specs.Textbook.{PairSet}
 
@@ -27,10 +28,6 @@ code-of S = map (byte-of S) (counting 0 35)
 pub record Row (v : Code) : Type 0 where
   pub size : length v ≡ 35
   pub bytes : All (λ b. b < 256) v
-
-unfoldable pub all-bytes : Code → Bool
-all-bytes [] = true
-all-bytes (b ∷ bs) = ltb b 256 && all-bytes bs
 
 unfoldable pub is-row : Code → Bool
 is-row v = eqb (length v) 35 && all-bytes v

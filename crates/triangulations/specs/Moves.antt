@@ -5,9 +5,9 @@ use mathlib.Core.Bool.{Bool, cond, _&&_, _||_}
 use Rattle.std.specs.declared.option.Option.{Option}
 use Rattle.std.specs.declared.option.Option.the-variants.{Some, None}
 use Rattle.digits.specs.Bits.{count}
+use Rattle.masks.specs.Pick.{least}
 use Rattle.pairs.specs.Pairs.{pair-count, number, corners-of}
 use Rattle.triangulations.specs.Polygon.{is-side, is-diagonal}
-use Rattle.triangulations.specs.Search.{least}
 use Rattle.triangulations.specs.Textbook.{PairSet}
 
 -- 1 if (a, b), with a < b < n, is a side or a member, else 0.
@@ -31,10 +31,10 @@ beyond p c = ltb c (p .0) || ltb (p .1) c
 
 -- The corner on each side that forms a triangle with the two corners of a pair.
 unfoldable pub inside : ℕ → PairSet → ℕ × ℕ → Option ℕ
-inside n S p = least n (λ c. between p c && triangle n S p c)
+inside n S p = least (λ c. between p c && triangle n S p c) n
 
 unfoldable pub outside : ℕ → PairSet → ℕ × ℕ → Option ℕ
-outside n S p = least n (λ c. beyond p c && triangle n S p c)
+outside n S p = least (λ c. beyond p c && triangle n S p c) n
 
 -- The number of the pair between two corners.
 unfoldable pub pair-of : Option ℕ → Option ℕ → Option ℕ
@@ -58,7 +58,7 @@ leads-home n S e =
 
 -- The home slot: the smallest such e.
 unfoldable pub home-slot : ℕ → PairSet → Option ℕ
-home-slot n S = least (pair-count n) (leads-home n S)
+home-slot n S = least (leads-home n S) (pair-count n)
 
 -- The number of members that do not end at corner 0.
 unfoldable pub off-corner : PairSet → ℕ → ℕ

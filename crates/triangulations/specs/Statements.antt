@@ -4,11 +4,11 @@ use mathlib.Core.Bool.{Bool, true, _&&_}
 use mathlib.Core.Path.{_≡_}
 use Rattle.std.specs.Orderings.{Decides}
 use Rattle.oracle.specs.Laws.{Object, Lawful}
-use Rattle.oracle.specs.Setup.{Code}
+use Rattle.oracle.specs.Setup.{Code, filled}
 use Rattle.pairs.specs.Pairs.{corners-of}
 use Rattle.triangulations.specs.Census.{polygon}
-use Rattle.triangulations.specs.Codes.{members, Row}
-use Rattle.triangulations.specs.Moves.{triangle, between, beyond}
+use Rattle.triangulations.specs.Codes.{members, code-of, Row}
+use Rattle.triangulations.specs.Moves.{triangle, between, beyond, exchanged}
 use Rattle.triangulations.specs.Textbook.{PairSet, Triangulation}
 
 -- The objects are exactly the rows of 35 bytes whose pairs are a triangulation.
@@ -30,8 +30,15 @@ pub record TwoTriangles (n : ℕ) (S : PairSet) (e : ℕ) : Type 0 where
 abbrev pub TrianglesFound : ℕ → Type 0
 TrianglesFound n = (v : Code) → Object (polygon n) v → (e : ℕ) → members v e ≡ 1 → TwoTriangles n (members v) e
 
+-- The slots of the members are filled: each with the set in which another diagonal stands for the member.
+abbrev pub SlotsFilled : ℕ → Type 0
+SlotsFilled n =
+    (v : Code) → Object (polygon n) v → (e : ℕ) → members v e ≡ 1
+    → (f : ℕ) × (polygon n .slot v e ≡ filled (code-of (exchanged (members v) e f)) f)
+
 -- All of it, for a polygon of 3 to 24 corners.
 pub record Stands (n : ℕ) : Type 0 where
   pub lawful : Lawful (polygon n)
   pub objects : ObjectsDecided n
   pub triangles : TrianglesFound n
+  pub slots : SlotsFilled n

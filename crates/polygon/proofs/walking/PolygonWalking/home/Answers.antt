@@ -7,9 +7,10 @@ use mathlib.Core.Path.{_≡_, sym, ap, _∙_}
 use native.Mathlib.Omega.{arith}
 use Rattle.std.proofs.shelf.Bits.{one-shl}
 use Rattle.std.specs.declared.option.Option.the-variants.{Some}
+use Rattle.pairs.specs.Pairs.{number}
 use Rattle.triangulations.specs.Moves.{home-slot}
 use Rattle.polygon.specs.Rows.{others}
-use Rattle.polygon.specs.declared.polygon.Polygon.{Polygon}
+use Rattle.polygon.specs.declared.subject.Polygon.{Polygon}
 use Rattle.polygon.proofs.CornerZero.{home-none-is, home-some-is, first-positive, first-below}
 use Rattle.polygon.proofs.Standing.{current-set, kept, same-set}
 use Rattle.polygon.proofs.walking.PolygonWalking.home.Needs as need
@@ -38,9 +39,9 @@ returns-then-apart-eq0 c =
     (ap (home-slot (p .n)) (same-set p)
     ∙ home-none-is (p .n) (current-set p) (p .rows) (kept p) (sym (apart-is p) ∙ c .if-apart-eq0 .taken))
 
-pub shr-next : need.shr-next
+pub first-gap-first-requires : need.first-gap-first-requires
 unfolding apart
-shr-next c =
+first-gap-first-requires c κs =
     let p = c .args .self .now in
     let l = first-below (p .n) (current-set p) (p .rows) (kept p) (some-apart p (c .if-apart-eq0 .left)) in
     omega (arith, ap (trailingZeros 32) (apart-is p), p .few)
@@ -50,13 +51,14 @@ unfolding apart
 sub-first c =
     let p = c .args .self .now in
     let l = first-positive (p .n) (current-set p) (p .rows) (kept p) (some-apart p (c .if-apart-eq0 .left)) in
+    let first = ap (λ (q : ℕ × ℕ). q .0) (c .first-gap-first .ensures) in
     omega (arith, ap (trailingZeros 32) (apart-is p))
 
 pub returns : need.returns
 unfolding apart
 returns c =
     let p = c .args .self .now in
-    ap Some (c .pair-number .ensures)
+    ap Some (c .pair-number .ensures) ∙ ap (λ (q : ℕ × ℕ). Some (number (q .0 - 1) (q .1))) (c .first-gap-first .ensures)
     ∙ sym
     (ap (home-slot (p .n)) (same-set p)
     ∙ home-some-is (p .n) (current-set p) (p .rows) (kept p) (some-apart p (c .if-apart-eq0 .left)) (trailingZeros 32 (apart p))

@@ -1,0 +1,9 @@
+pub mod Stand
+pub mod Places
+pub mod Tallies
+pub mod View
+pub mod Plain
+pub mod States
+pub mod Acts
+pub mod Runs
+pub mod Counts

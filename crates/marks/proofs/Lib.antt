@@ -1,0 +1,3 @@
+pub mod RoundTrip
+pub mod Writes
+pub mod Opens
