@@ -10,7 +10,7 @@ returns-then-not-is-ascii-digit c =
 
 pub loop-n-preserved : goal.loop-n-preserved
 loop-n-preserved c =
-    let e = prefix_len-drop_yes is_ascii_digit c.args.bytes.now c.loop-n.n 0 c.loop-n-test.true (sym c.if-not-is-ascii-digit.ensures.value) in
+    let e = prefix_len-drop_yes is_ascii_digit c.args.bytes.now c.loop-n.n 0 c.loop-n-test.true (sym c.if-not-is_ascii_digit.ensures.value) in
     omega arith
 
 pub returns : goal.returns

@@ -25,10 +25,10 @@ overflow-add-value c =
 
 pub loop-b-preserved : goal.loop-b-preserved
 loop-b-preserved c =
-    let on = read_on_digit c.loop-b.value c.args.bytes.now c.loop-b.b-index c.loop-b-test.true (sym c.if-not-is-ascii-digit.ensures.value) in
+    let on = read_on_digit c.loop-b.value c.args.bytes.now c.loop-b.b-index c.loop-b-test.true (sym c.if-not-is_ascii_digit.ensures.value) in
     let same = c.from.ensures in
     let one = pow-add 10 c.loop-b.b-index 1 in
-    (cc, omega (arith, c.if-not-is-ascii-digit.ensures.cases))
+    (cc, omega (arith, c.if-not-is_ascii_digit.ensures.cases))
 
 pub returns : goal.returns
 returns c =

@@ -6,6 +6,6 @@ use Rattle.items.proofs.parse.read_line.Goals as goal
 pub returns : goal.returns
 returns c =
     record {
-      value = c.parse-line.ensures;
-      spells = subst (λ r. Spells c.args.bytes.now r) (sym c.parse-line.ensures) (spells c.args.bytes.now);
+      value = c.parse_line.ensures;
+      spells = subst (λ r. Spells c.args.bytes.now r) (sym c.parse_line.ensures) (spells c.args.bytes.now);
     }

@@ -26,6 +26,6 @@ returns g c =
       sound = h;
       setup = same;
       root =
-          homeless_root (W.setup o) (W.lawful o h) (W.current o) (W.stands o h) (sym c.home.ensures ∙ c.in-default.is)
+          homeless_root (W.setup o) (W.lawful o h) (W.current o) (W.stands o h) (sym c.home.ensures ∙ c.in_default.is)
           ∙ ap (λ (s : Setup). s.root) same;
     }

@@ -1,7 +1,7 @@
 use Rattle.std.proofs.Common.{sym, ◌∙◌, arith}
 use Rattle.oracle.proofs.Turns.{scanned, scan_below, scan_over, scan_rank, back_below, scan_vacant, scan_other, ends_at_child, ends_at_root, rise_on, risen_lower, risen_below, ended_next}
 use Rattle.oracle.proofs.walk.walk.Goals as goal
-use Rattle.oracle.proofs.walk.walk.Goals.{in-Some+else-leads-home, in-default}
+use Rattle.oracle.proofs.walk.walk.Goals.{in-Some+else-leads_home, in_default}
 
 -- the return slot is below the width
 pub cross-requires-in-Some : goal.cross-requires-in-Some
@@ -19,26 +19,26 @@ cross-requires-in-Some g c =
 pub scan-preserved : goal.scan-preserved
 scan-preserved g c =
     elim c.match-cross.branch [
-      | in-Some+else-leads-home w ↦
+      | in-Some+else-leads_home w ↦
           scan_other c.scan.invariant
           (scan_below (scanned c.rising.invariant c.scan.invariant) c.width-width.ensures (omega (arith, c.scan-test.true)))
           (record { sound_now = c.cross.ensures.sound; setup_same = c.cross.ensures.setup; crossed = c.cross.ensures.crossed })
           w.in-Some.is
-          (sym w.leads_home.ensures ∙ w.if-leads-home.false)
+          (sym w.leads_home.ensures ∙ w.if-leads_home.false)
           (record { sound_now = w.cross-in-Some.ensures.sound; setup_same = w.cross-in-Some.ensures.setup; crossed = w.cross-in-Some.ensures.crossed })
           w.oracle-is
           (omega (arith, w.steps-is, w.cross-in-Some.ensures.counted, c.cross.ensures.counted))
-      | in-default w ↦
+      | in_default w ↦
           scan_vacant c.scan.invariant
           (scan_below (scanned c.rising.invariant c.scan.invariant) c.width-width.ensures (omega (arith, c.scan-test.true)))
           (record { sound_now = c.cross.ensures.sound; setup_same = c.cross.ensures.setup; crossed = c.cross.ensures.crossed })
-          w.in-default.is
+          w.in_default.is
           w.oracle-is
           (omega (arith, w.steps-is, c.cross.ensures.counted))
     ]
 
-pub overflow-add-slot-in-rising : goal.overflow-add-slot-in-rising
-overflow-add-slot-in-rising g c =
+pub overflow_add-slot-in-rising : goal.overflow_add-slot-in-rising
+overflow_add-slot-in-rising g c =
     let small =
     risen_below g.row.O.Denot g.O.Walking c.scan.oracle c.rise-slot.new.oracle c.in-Some-home.up c.rise-slot.result c.scan.invariant.sound_now (sym c.home.ensures ∙ c.in-Some-home.is)
     c.rise-slot.ensures.risen in
@@ -65,14 +65,14 @@ rising-preserved g c =
     c.rise-slot.ensures.counted
 
 -- a child is reached
-pub returns-then-leads-home : goal.returns-then-leads-home
-returns-then-leads-home g c =
+pub returns-then-leads_home : goal.returns-then-leads_home
+returns-then-leads_home g c =
     let end =
     ends_at_child (scanned c.rising.invariant c.scan.invariant)
     (scan_below (scanned c.rising.invariant c.scan.invariant) c.width-width.ensures (omega (arith, c.scan-test.true)))
     (record { sound_now = c.cross.ensures.sound; setup_same = c.cross.ensures.setup; crossed = c.cross.ensures.crossed })
     c.in-Some.is
-    (sym c.leads_home.ensures ∙ c.if-leads-home.true)
+    (sym c.leads_home.ensures ∙ c.if-leads_home.true)
     c.cross.ensures.counted in
     record {
       sound = end.sound_now;
@@ -83,12 +83,12 @@ returns-then-leads-home g c =
     }
 
 -- the end is reached
-pub returns-in-default-home : goal.returns-in-default-home
-returns-in-default-home g c =
+pub returns-in_default-home : goal.returns-in_default-home
+returns-in_default-home g c =
     let end =
     ends_at_root (scanned c.rising.invariant c.scan.invariant)
     (scan_over (scanned c.rising.invariant c.scan.invariant) c.width-width.ensures (omega (arith, c.scan-test.false)))
-    (sym c.home.ensures ∙ c.in-default-home.is) in
+    (sym c.home.ensures ∙ c.in_default-home.is) in
     record {
       sound = end.sound_now;
       setup = end.setup_same;

@@ -19,8 +19,8 @@ pub returns : goal.returns
 returns c =
     record {
       item =
-          item_cut c.args.self.now.line.now c.args.self.now.place.at c.digit-run-n.result c.if-start-line.false
-          c.if-first-ne32.false c.digit-run-n.ensures.value;
+          item_cut c.args.self.now.line.now c.args.self.now.place.at c.digit_run-n.result c.if-start-line.false
+          c.if-first-ne32.false c.digit_run-n.ensures.value;
       place = refl;
       line = refl;
       number = refl;
