@@ -3,24 +3,24 @@ use Rattle.lines.proofs.Steps.{length_word, length_long, last_joins}
 use Rattle.lines.proofs.last_line.Goals as goal
 
 -- ten digits at most, then twenty, and the room was asked for
-pub put-digits-requires : goal.put-digits-requires
-put-digits-requires c =
-    let room = c.in-ok-reserve.ensures.ok refl in
+pub put_digits-requires : goal.put_digits-requires
+put_digits-requires c =
+    let room = c.in_ok-reserve.ensures.ok in
     omega (arith, length_word c.from.result (omega arith))
 
-pub put-steps-requires : goal.put-steps-requires
-put-steps-requires c =
-    let room = c.in-ok-reserve.ensures.ok refl in
+pub put_steps-requires : goal.put_steps-requires
+put_steps-requires c =
+    let room = c.in_ok-reserve.ensures.ok in
     omega (arith, length_word c.from.result (omega arith))
 
-pub put-digits-requires-2 : goal.put-digits-requires-2
-put-digits-requires-2 c =
-    let room = c.in-ok-reserve.ensures.ok refl in
+pub put_digits-requires-2 : goal.put_digits-requires-2
+put_digits-requires-2 c =
+    let room = c.in_ok-reserve.ensures.ok in
     omega (arith, length_word c.from.result (omega arith), length_long c.args.steps (omega arith))
 
-pub put-end-requires : goal.put-end-requires
-put-end-requires c =
-    let room = c.in-ok-reserve.ensures.ok refl in
+pub put_end-requires : goal.put_end-requires
+put_end-requires c =
+    let room = c.in_ok-reserve.ensures.ok in
     omega (arith, length_word c.from.result (omega arith), length_long c.args.steps (omega arith))
 
 pub returns : goal.returns

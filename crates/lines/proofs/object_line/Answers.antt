@@ -4,24 +4,24 @@ use Rattle.lines.proofs.Steps.{length_word, object_joins}
 use Rattle.lines.proofs.object_line.Goals as goal
 
 -- a rank has ten digits at most, and the room was asked for
-pub put-digits-requires : goal.put-digits-requires
-put-digits-requires c =
-    let room = c.in-ok-reserve-hex.ensures.room refl in
+pub put_digits-requires : goal.put_digits-requires
+put_digits-requires c =
+    let room = c.in_ok-reserve_hex.ensures.room refl in
     omega (arith, length_word c.from.result (omega arith))
 
-pub put-space-requires : goal.put-space-requires
-put-space-requires c =
-    let room = c.in-ok-reserve-hex.ensures.room refl in
+pub put_space-requires : goal.put_space-requires
+put_space-requires c =
+    let room = c.in_ok-reserve_hex.ensures.room refl in
     omega (arith, length_word c.from.result (omega arith))
 
-pub put-hex-requires : goal.put-hex-requires
-put-hex-requires c =
-    let room = c.in-ok-reserve-hex.ensures.room refl in
+pub put_hex-requires : goal.put_hex-requires
+put_hex-requires c =
+    let room = c.in_ok-reserve_hex.ensures.room refl in
     omega (arith, length_word c.from.result (omega arith))
 
-pub put-end-requires : goal.put-end-requires
-put-end-requires c =
-    let room = c.in-ok-reserve-hex.ensures.room refl in
+pub put_end-requires : goal.put_end-requires
+put_end-requires c =
+    let room = c.in_ok-reserve_hex.ensures.room refl in
     omega (arith, length_word c.from.result (omega arith))
 
 pub returns : goal.returns

@@ -3,9 +3,9 @@ use Rattle.std.specs.Char.{is_ascii_digit}
 use Rattle.std.proofs.lemmas.List.Sums.{prefix_len-drop_yes, prefix_len-drop_no, prefix_len-drop_all}
 use Rattle.items.proofs.lexer.digit_run.Goals as goal
 
-pub returns-then-not-is-ascii-digit : goal.returns-then-not-is-ascii-digit
-returns-then-not-is-ascii-digit c =
-    let e = prefix_len-drop_no is_ascii_digit c.args.bytes.now c.loop-n.n 0 c.loop-n-test.true (sym c.if-not-is-ascii-digit.ensures.value) in
+pub returns-then-not-is_ascii_digit : goal.returns-then-not-is_ascii_digit
+returns-then-not-is_ascii_digit c =
+    let e = prefix_len-drop_no is_ascii_digit c.args.bytes.now c.loop-n.n 0 c.loop-n-test.true (sym c.if-not-is_ascii_digit.ensures.value) in
     record { value = omega arith; within = omega arith }
 
 pub loop-n-preserved : goal.loop-n-preserved

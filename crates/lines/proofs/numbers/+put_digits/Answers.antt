@@ -3,8 +3,8 @@ use Rattle.std.proofs.lemmas.Fmt.{decimal_digit, decimal_step}
 use Rattle.lines.proofs.Steps.{length_digit, length_step}
 use Rattle.lines.proofs.numbers.+put_digits.Goals as goal
 
-pub push-reserved-requires : goal.push-reserved-requires
-push-reserved-requires t c = omega (arith, length_digit c.args.n (omega arith))
+pub push_reserved-requires : goal.push_reserved-requires
+push_reserved-requires t c = omega (arith, length_digit c.args.n (omega arith))
 
 pub returns-then-n-lt10 : goal.returns-then-n-lt10
 returns-then-n-lt10 t c =
@@ -14,11 +14,11 @@ returns-then-n-lt10 t c =
     let long = length_digit n (omega arith) in
     record { items = cc; len = omega arith; capacity = cc }
 
-pub put-digits-requires : goal.put-digits-requires
-put-digits-requires t c = omega (arith, length_step c.args.n (omega arith) (omega arith))
+pub put_digits-requires : goal.put_digits-requires
+put_digits-requires t c = omega (arith, length_step c.args.n (omega arith) (omega arith))
 
-pub push-reserved-requires-2 : goal.push-reserved-requires-2
-push-reserved-requires-2 t c = omega (arith, length_step c.args.n (omega arith) (omega arith))
+pub push_reserved-requires-2 : goal.push_reserved-requires-2
+push_reserved-requires-2 t c = omega (arith, length_step c.args.n (omega arith) (omega arith))
 
 pub returns : goal.returns
 returns t c =

@@ -5,31 +5,31 @@ use Rattle.maps.specs.Views.{drafted}
 use Rattle.maps.proofs.Tables.{run_refused, run_taken, run_done, run_meant}
 use Rattle.maps.proofs.drafting.map_of.Goals as goal
 
-pub returns-in-err-add : goal.returns-in-err-add
-returns-in-err-add c =
-    let p = err_from_is_err_and c.from-residual-in-err-add.result c.from-residual-in-err-add.ensures.1 in
+pub returns-in_err-add : goal.returns-in_err-add
+returns-in_err-add c =
+    let p = err_from_is_err_and c.from_residual-in_err-add.result c.from_residual-in_err-add.ensures.1 in
     rw (p.1, p.2)
     (record {
       value =
-          run_refused c.args.n c.args.pairs.now (drafted c.in-ok-draft.draft) (drafted c.loop-a.draft) c.loop-a.a-index
-          c.in-ok-draft.ensures c.loop-a.invariant (drafted c.add.new.self) _ c.loop-a-test.true c.in-err-add.ensures;
+          run_refused c.args.n c.args.pairs.now (drafted c.in_ok-draft.draft) (drafted c.loop-a.draft) c.loop-a.a-index
+          c.in_ok-draft.ensures c.loop-a.invariant (drafted c.add.new.self) _ c.loop-a-test.true c.in_err-add.ensures;
       touching = tt;
     })
 
 pub loop-a-preserved : goal.loop-a-preserved
 loop-a-preserved c =
-    run_taken c.args.n c.args.pairs.now (drafted c.in-ok-draft.draft) (drafted c.loop-a.draft) c.loop-a.a-index
-    c.in-ok-draft.ensures c.loop-a.invariant (drafted c.add.new.self) _ c.loop-a-test.true c.in-ok-add.ensures
+    run_taken c.args.n c.args.pairs.now (drafted c.in_ok-draft.draft) (drafted c.loop-a.draft) c.loop-a.a-index
+    c.in_ok-draft.ensures c.loop-a.invariant (drafted c.add.new.self) _ c.loop-a-test.true c.in_ok-add.ensures
 
 pub returns : goal.returns
 returns c =
     record {
       value =
           ap Ok c.seal.ensures
-          ∙ run_done c.args.n c.args.pairs.now (drafted c.in-ok-draft.draft) (drafted c.loop-a.draft) c.loop-a.a-index
-          c.in-ok-draft.ensures c.loop-a.invariant c.loop-a-test.false;
+          ∙ run_done c.args.n c.args.pairs.now (drafted c.in_ok-draft.draft) (drafted c.loop-a.draft) c.loop-a.a-index
+          c.in_ok-draft.ensures c.loop-a.invariant c.loop-a-test.false;
       touching =
           subst (λ (m : Regions). Touching c.args.pairs.now m.rows) (sym c.seal.ensures)
-          (run_meant c.args.n c.args.pairs.now (drafted c.in-ok-draft.draft) (drafted c.loop-a.draft) c.loop-a.a-index
-          c.in-ok-draft.ensures c.loop-a.invariant c.loop-a-test.false);
+          (run_meant c.args.n c.args.pairs.now (drafted c.in_ok-draft.draft) (drafted c.loop-a.draft) c.loop-a.a-index
+          c.in_ok-draft.ensures c.loop-a.invariant c.loop-a-test.false);
     }

@@ -7,14 +7,14 @@ use Rattle.marks.specs.Layout.{weigh}
 added : (c : goal.After-from) → (c.loop-byte.place + 1) * c.from.result ≤ 130560
 added c =
     let low : c.loop-byte.place + 1 ≤ 512 = omega arith in
-    let byte : c.from.result ≤ 255 = omega (arith, c.type-inv.bytes c.loop-byte.byte-index) in
+    let byte : c.from.result ≤ 255 = omega (arith, c.type_inv.bytes c.loop-byte.byte-index) in
     mul-le-mul low byte
 
-pub overflow-mul-sum : goal.overflow-mul-sum
-overflow-mul-sum c = omega (arith, added c)
+pub overflow_mul-sum : goal.overflow_mul-sum
+overflow_mul-sum c = omega (arith, added c)
 
-pub overflow-add-sum : goal.overflow-add-sum
-overflow-add-sum c = omega (arith, added c)
+pub overflow_add-sum : goal.overflow_add-sum
+overflow_add-sum c = omega (arith, added c)
 
 pub loop-byte-preserved : goal.loop-byte-preserved
 unfolding weigh

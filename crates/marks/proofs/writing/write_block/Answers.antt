@@ -21,7 +21,7 @@ returns g c =
     let n = body_length (W.setup o) (W.lawful o c.requires) (W.current o) (W.stands o c.requires) c.args.job (omega arith) in
     record {
       written =
-          fronted c.lay-body.new.bytes buffer c.seal.new.bytes (ap length c.lay-body.ensures ∙ n) c.if-buffer-lt512.false c.seal.ensures
-          ∙ ap (λ b. placed (ltb (length buffer) 512) (sealed b) buffer) c.lay-body.ensures;
+          fronted c.lay_body.new.bytes buffer c.seal.new.bytes (ap length c.lay_body.ensures ∙ n) c.if-buffer-lt512.false c.seal.ensures
+          ∙ ap (λ b. placed (ltb (length buffer) 512) (sealed b) buffer) c.lay_body.ensures;
       opens = round_trip (W.setup o) (W.lawful o c.requires) (W.current o) (W.stands o c.requires) c.args.job (omega arith);
     }

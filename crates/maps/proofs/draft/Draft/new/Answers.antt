@@ -3,9 +3,9 @@ use Rattle.maps.specs.Touch.{bare}
 use Rattle.maps.proofs.Tables.{mutual_bare, inside_bare, begun_good}
 use Rattle.maps.proofs.draft.Draft.new.Goals as goal
 
-pub invariant-of-result : goal.invariant-of-result
+pub invariant_of-result : goal.invariant_of-result
 unfolding bare
-invariant-of-result c = (omega arith, (omega arith, (mutual_bare, (inside_bare c.args.n, tt))))
+invariant_of-result c = record { some = omega arith; few = omega arith; «mutual» = mutual_bare; inside = inside_bare c.args.n }
 
 pub returns : goal.returns
 unfolding bare

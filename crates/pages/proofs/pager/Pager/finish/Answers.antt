@@ -15,7 +15,7 @@ returns g c =
     let v = shown W.setup W.current census in
     let from = place_from_one s (W.lawful o c.requires.sound) census.rest (W.current o) (W.stands o c.requires.sound) in
     let same = c.tally-tally.ensures in
-    let fits = c.tally-tally.type-inv in
+    let fits = c.tally-tally.type_inv in
     let small : census.tally.steps ≤ ceiling = omega (arith, ap (λ t. t.steps) same) in
     record {
       sound = c.requires.sound;

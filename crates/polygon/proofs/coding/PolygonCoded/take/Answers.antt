@@ -18,14 +18,14 @@ returns-then-not-all-fit c =
       setup = refl;
       moved =
           take_refused p.n (current_of p) c.args.row.now
-          (judged p.n c.args.row.now c.gathered-rows.result p.few (omega arith) (λ i. (c.type-inv.row i).fits) c.gathered-rows.ensures false
+          (judged p.n c.args.row.now c.gathered-rows.result p.few (omega arith) (λ i. (c.type_inv.row i).fits) c.gathered-rows.ensures false
           (sym c.all-fit.ensures ∙ c.if-not-all-fit.true));
     }
 
 pub invariant-of-self : goal.invariant-of-self
 invariant-of-self c =
     let p = c.args.self.now in
-    let s = taken_rows p.n c.args.row.now c.gathered-rows.result p.few (omega arith) (λ i. (c.type-inv.row i).fits) c.gathered-rows.ensures
+    let s = taken_rows p.n c.args.row.now c.gathered-rows.result p.few (omega arith) (λ i. (c.type_inv.row i).fits) c.gathered-rows.ensures
     (sym c.all-fit.ensures ∙ c.if-not-all-fit.false) in
     (p.large, (p.few, (s.whole, (s.tied, tt))))
 
@@ -38,6 +38,6 @@ returns c =
       setup = refl;
       moved =
           take_granted p.n (current_of p) (code_of (set_of p.n c.gathered-rows.result)) c.args.row.now
-          (judged p.n c.args.row.now c.gathered-rows.result p.few (omega arith) (λ i. (c.type-inv.row i).fits) c.gathered-rows.ensures true whole)
-          (taken_code p.n c.args.row.now c.gathered-rows.result p.few (omega arith) (λ i. (c.type-inv.row i).fits) c.gathered-rows.ensures whole);
+          (judged p.n c.args.row.now c.gathered-rows.result p.few (omega arith) (λ i. (c.type_inv.row i).fits) c.gathered-rows.ensures true whole)
+          (taken_code p.n c.args.row.now c.gathered-rows.result p.few (omega arith) (λ i. (c.type_inv.row i).fits) c.gathered-rows.ensures whole);
     }
