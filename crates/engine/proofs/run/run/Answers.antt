@@ -25,9 +25,9 @@ loop-call-preserved g c =
       setup_same = c.perform-call.ensures.setup ∙ c.loop-call.invariant.setup_same;
       in_step =
           one_more s v after calls i c.call-item.result _ (omega arith) refl c.tally-call.ensures
-          (ap (λ b. (c.perform-call.result, b, after)) (with_items_is call.bytes c.perform-call.new.buffer (c.perform-call.auto.buffer ∙ c.as-mut-slice.ensures.len))
+          (ap (λ b. (c.perform-call.result, b, after)) (with_items_is call.bytes c.perform-call.new.buffer (c.perform-call.auto.buffer ∙ c.as_mut_slice.ensures.len))
           ∙ c.perform-call.ensures.performed
-          ∙ ap₂ (λ n b. plain_act n v call.act b) c.loop-call.invariant.setup_same c.as-mut-slice.ensures.value)
+          ∙ ap₂ (λ n b. plain_act n v call.act b) c.loop-call.invariant.setup_same c.as_mut_slice.ensures.value)
           ∙ c.loop-call.invariant.in_step;
     }
 

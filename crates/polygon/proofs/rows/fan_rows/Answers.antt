@@ -7,7 +7,7 @@ use Rattle.polygon.proofs.rows.fan_rows.Goals as goal
 
 pub loop-b-init : goal.loop-b-init
 loop-b-init c =
-    (omega arith, omega arith, tied_same c.args.n bare (fan_below c.args.n 2) c.requires.1 (fan_start c.args.n) c.side-rows-rows.result c.side-rows-rows.ensures)
+    (omega arith, omega arith, tied_same c.args.n bare (fan_below c.args.n 2) c.requires.1 (fan_start c.args.n) c.side_rows-rows.result c.side_rows-rows.ensures)
 
 pub loop-b-preserved : goal.loop-b-preserved
 loop-b-preserved c =

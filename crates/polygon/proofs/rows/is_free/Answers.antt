@@ -10,13 +10,13 @@ loop-c-init c =
     let z : (c.args.a + 1) - (c.args.a + 1) ≡ 0 = omega arith in
     ap (λ (k : ℕ). every k f) z ∙ every_none f
 
-pub returns-then-not-stays-within : goal.returns-then-not-stays-within
+pub returns-then-not-stays_within : goal.returns-then-not-stays_within
 unfolding is_free
-returns-then-not-stays-within c =
+returns-then-not-stays_within c =
     let f : ℕ → Bool = λ i. stays_within c.args.rows.now c.args.a c.args.b (c.args.a + 1 + i) in
     let i = c.loop-c.c - (c.args.a + 1) in
     let at : c.args.a + 1 + i ≡ c.loop-c.c = omega arith in
-    let out : f i ≡ false = ap (stays_within c.args.rows.now c.args.a c.args.b) at ∙ sym c.stays-within.ensures ∙ c.if-not-stays-within.true in
+    let out : f i ≡ false = ap (stays_within c.args.rows.now c.args.a c.args.b) at ∙ sym c.stays_within.ensures ∙ c.if-not-stays_within.true in
     sym (every_not (c.args.b - (c.args.a + 1)) f i (omega arith) out)
 
 pub loop-c-preserved : goal.loop-c-preserved
@@ -25,7 +25,7 @@ loop-c-preserved c =
     let i = c.loop-c.c - (c.args.a + 1) in
     let at : c.args.a + 1 + i ≡ c.loop-c.c = omega arith in
     let more : (c.loop-c.c + 1) - (c.args.a + 1) ≡ i + 1 = omega arith in
-    let here : f i ≡ true = ap (stays_within c.args.rows.now c.args.a c.args.b) at ∙ sym c.stays-within.ensures ∙ c.if-not-stays-within.false in
+    let here : f i ≡ true = ap (stays_within c.args.rows.now c.args.a c.args.b) at ∙ sym c.stays_within.ensures ∙ c.if-not-stays_within.false in
     ap (λ (k : ℕ). every k f) more ∙ every_more i f c.loop-c.invariant here
 
 pub returns : goal.returns

@@ -4,8 +4,8 @@ use Rattle.std.proofs.lemmas.Nat.{one_shl}
 use Rattle.polygon.specs.Rows.{stays_within}
 use Rattle.polygon.proofs.rows.stays_within.Goals as goal
 
-pub overflow-sub-span : goal.overflow-sub-span
-overflow-sub-span c =
+pub overflow_sub-span : goal.overflow_sub-span
+overflow_sub-span c =
     omega (arith, one_shl c.args.a 32 (omega arith), one_shl (c.args.b + 1) 32 (omega arith), pow_mono {i = c.args.a} {j = c.args.b + 1} (omega arith))
 
 pub returns : goal.returns

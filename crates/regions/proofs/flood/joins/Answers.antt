@@ -55,7 +55,7 @@ bounds-rows-next c =
     (apart_from_xor l.seen l.done c.if-frontier-eq0.false)
 
 -- the region looked at in a turn, and that it was not looked at before
-turn : (c : goal.After-let-in-seen)
+turn : (c : goal.After-let_in-seen)
     → (next c.loop-seen.seen c.loop-seen.done < 64) × (bit c.loop-seen.done (next c.loop-seen.seen c.loop-seen.done) ≡ 0)
 turn c =
     let l = c.loop-seen in
@@ -65,8 +65,8 @@ turn c =
       next_left c.args.rows.now c.args.set a l.seen l.done l.invariant n,
     )
 
-pub overflow-shl-done : goal.overflow-shl-done
-overflow-shl-done c = (turn c).0
+pub overflow_shl-done : goal.overflow_shl-done
+overflow_shl-done c = (turn c).0
 
 pub loop-seen-smaller : goal.loop-seen-smaller
 loop-seen-smaller c =
@@ -85,7 +85,7 @@ loop-seen-preserved c =
     let i = next l.seen l.done in
     let n = apart_from_xor l.seen l.done c.if-frontier-eq0.false in
     let more = flooding_more t s a l.seen l.done i c.ranges.set.fits (turn c).0 l.invariant (next_seen t s a l.seen l.done l.invariant n) in
-    subst₂ (λ x y. Flooding t s a x (bit_or l.done y)) (sym c.let-in-seen.ensures) (sym (one_shl i 64 (turn c).0)) more
+    subst₂ (λ x y. Flooding t s a x (bit_or l.done y)) (sym c.let_in-seen.ensures) (sym (one_shl i 64 (turn c).0)) more
 
 pub returns : goal.returns
 returns c =

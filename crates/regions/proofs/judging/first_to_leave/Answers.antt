@@ -5,8 +5,8 @@ use Rattle.regions.proofs.judging.first_to_leave.Goals as goal
 pub loop-rest-init : goal.loop-rest-init
 loop-rest-init c = let m = c.args.map.now in tried_none m.n m.rows c.args.set c.ranges.set.fits
 
-pub stays-set-requires : goal.stays-set-requires
-stays-set-requires c =
+pub stays_set-requires : goal.stays_set-requires
+stays_set-requires c =
     let m = c.args.map.now in
     let s = c.args.set in
     let l = c.loop-rest in
@@ -14,21 +14,21 @@ stays-set-requires c =
     let inside = ((set_decides m.n m.rows m.few m.mutual s).0 c.requires).0 in
     record { object = c.requires; below = next_below m.n m.rows s l.rest i.result l.invariant c.loop-rest-test.true i.ensures inside }
 
-pub returns-then-stays-set : goal.returns-then-stays-set
-returns-then-stays-set c =
+pub returns-then-stays_set : goal.returns-then-stays_set
+returns-then-stays_set c =
     let m = c.args.map.now in
     let s = c.args.set in
     let l = c.loop-rest in
     let i = c.smallest-member in
     let inside = ((set_decides m.n m.rows m.few m.mutual s).0 c.requires).0 in
-    tried_found m.n m.rows s l.rest i.result l.invariant c.loop-rest-test.true i.ensures inside c.if-stays-set.ensures
+    tried_found m.n m.rows s l.rest i.result l.invariant c.loop-rest-test.true i.ensures inside c.if-stays_set.ensures
 
 pub loop-rest-preserved : goal.loop-rest-preserved
 loop-rest-preserved c =
     let m = c.args.map.now in
     let l = c.loop-rest in
     let i = c.smallest-member in
-    tried_more m.n m.rows c.args.set l.rest i.result l.invariant c.loop-rest-test.true i.ensures c.if-stays-set.ensures
+    tried_more m.n m.rows c.args.set l.rest i.result l.invariant c.loop-rest-test.true i.ensures c.if-stays_set.ensures
 
 pub returns : goal.returns
 returns c =

@@ -7,8 +7,8 @@ use Rattle.connected.proofs.Laws.{set_decides}
 use Rattle.regions.proofs.Coded.{judged}
 use Rattle.regions.proofs.judging.stays_set.Goals as goal
 
-pub stays-connected-requires : goal.stays-connected-requires
-stays-connected-requires c =
+pub stays_connected-requires : goal.stays_connected-requires
+stays_connected-requires c =
     let m = c.args.map.now in
     let s = c.args.set in
     record {
@@ -22,7 +22,7 @@ returns c =
     let m = c.args.map.now in
     let s = c.args.set in
     let i = c.args.region in
-    let r = c.stays-connected.result in
+    let r = c.stays_connected.result in
     let inside = ((set_decides m.n m.rows m.few m.mutual s).0 c.requires.object).0 in
     judged m (turned s i) r (flip_lt m.n s i inside c.requires.below)
-    (subst (λ t. Decides r (Connected t (turned s i))) c.rows.ensures c.stays-connected.ensures)
+    (subst (λ t. Decides r (Connected t (turned s i))) c.rows.ensures c.stays_connected.ensures)

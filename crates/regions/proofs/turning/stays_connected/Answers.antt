@@ -30,5 +30,5 @@ returns-else-has c =
     let t = c.args.rows.now in
     let s = c.args.set in
     let i = c.args.region in
-    Decides-at c.can-join.result _ c.can-join.ensures
+    Decides-at c.can_join.result _ c.can_join.ensures
     (put_in_decides t s i c.requires.touching c.ranges.set.fits c.requires.connected (bit_off s i (sym c.if-has.ensures)))

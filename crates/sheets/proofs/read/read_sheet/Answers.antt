@@ -15,12 +15,12 @@ accepting bs r e = subst (λ x. Accepting bs x) (sym e) (accepts bs)
 refusing : (bs : List ℕ) (r : Result Wanted Fault) → r ≡ read_all bs → Refusing bs r
 refusing bs r e = subst (λ x. Refusing bs x) (sym e) (refuses bs)
 
-pub returns-then-is-too-long : goal.returns-then-is-too-long
-returns-then-is-too-long c =
-    let value = ap Err c.at_line.ensures ∙ sym (read_long c.args.bytes.now (ltb-true most_bytes (length c.args.bytes.now) (sym c.if-is-too-long.ensures))) in
+pub returns-then-is_too_long : goal.returns-then-is_too_long
+returns-then-is_too_long c =
+    let value = ap Err c.at_line.ensures ∙ sym (read_long c.args.bytes.now (ltb-true most_bytes (length c.args.bytes.now) (sym c.if-is_too_long.ensures))) in
     record { value = value; accepting = accepting c.args.bytes.now _ value; refusing = refusing c.args.bytes.now _ value }
 
 pub returns : goal.returns
 returns c =
-    let value = c.read_lines.ensures ∙ sym (read_short c.args.bytes.now (ltb-false most_bytes (length c.args.bytes.now) (sym c.if-is-too-long.ensures))) in
+    let value = c.read_lines.ensures ∙ sym (read_short c.args.bytes.now (ltb-false most_bytes (length c.args.bytes.now) (sym c.if-is_too_long.ensures))) in
     record { value = value; accepting = accepting c.args.bytes.now _ value; refusing = refusing c.args.bytes.now _ value }

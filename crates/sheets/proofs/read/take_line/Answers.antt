@@ -12,19 +12,19 @@ returns-then-stopped c =
 
 pub returns-in-Err : goal.returns-in-Err
 returns-in-Err c =
-    ap Err c.at-line-in-Err.ensures
+    ap Err c.at_line-in-Err.ensures
     ∙ ap (λ a. faulted a c.args.number)
     (sym (bytes_bad (state_of c.args.state) c.args.bytes.now c.in-Err.refusal (sym c.if-stopped.ensures) (sym c.in-Err.ensures.value)))
 
-pub returns-in-Err-after-line : goal.returns-in-Err-after-line
-returns-in-Err-after-line c =
-    ap Err c.at-line-in-Err-after-line.ensures
+pub returns-in-Err-after_line : goal.returns-in-Err-after_line
+returns-in-Err-after_line c =
+    ap Err c.at_line-in-Err-after_line.ensures
     ∙ ap (λ a. faulted a c.args.number)
-    (c.in-Err-after-line.ensures
+    (c.in-Err-after_line.ensures
     ∙ sym (bytes_good (state_of c.args.state) c.args.bytes.now c.in-Ok.line (sym c.if-stopped.ensures) (sym c.in-Ok.ensures.value)))
 
-pub returns-in-Ok-after-line : goal.returns-in-Ok-after-line
-returns-in-Ok-after-line c =
+pub returns-in-Ok-after_line : goal.returns-in-Ok-after_line
+returns-in-Ok-after_line c =
     ap (λ a. faulted a c.args.number)
-    (c.in-Ok-after-line.ensures
+    (c.in-Ok-after_line.ensures
     ∙ sym (bytes_good (state_of c.args.state) c.args.bytes.now c.in-Ok.line (sym c.if-stopped.ensures) (sym c.in-Ok.ensures.value)))

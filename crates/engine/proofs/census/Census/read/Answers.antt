@@ -8,5 +8,5 @@ returns g c =
     let W = g.O.Walking in
     let census = c.args.self.now in
     let o = census.oracle in
-    c.put-code.ensures
+    c.put_code.ensures
     ∙ sym (ap (read_from (W.setup o) c.args.buffer.now) (spot_at (W.setup o) (W.lawful o c.requires) census.rest (W.current o) (W.stands o c.requires)))

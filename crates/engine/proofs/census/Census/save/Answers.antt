@@ -11,9 +11,9 @@ returns g c =
     let o = census.oracle in
     record {
       saved =
-          c.put-block.ensures
+          c.put_block.ensures
           ∙ sym (ap (save_from c.args.job (W.setup o) c.args.buffer.now) (spot_at (W.setup o) (W.lawful o c.requires) census.rest (W.current o) (W.stands o c.requires)));
       opens =
-          opens_again c.args.job (W.setup o) (W.lawful o c.requires) (W.current o) (W.stands o c.requires) (omega arith) census.rest census.tally c.put-block.result c.args.buffer.now c.put-block.new.buffer
-          c.put-block.ensures;
+          opens_again c.args.job (W.setup o) (W.lawful o c.requires) (W.current o) (W.stands o c.requires) (omega arith) census.rest census.tally c.put_block.result c.args.buffer.now c.put_block.new.buffer
+          c.put_block.ensures;
     }

@@ -10,8 +10,8 @@ returns-then-row-ne35 c =
     let p = c.args.self.now in
     record { sound = tt; setup = refl; moved = take_refused p.n (current_of p) c.args.row.now (no_row p.n c.args.row.now c.if-row-ne35.true) }
 
-pub returns-then-not-all-fit : goal.returns-then-not-all-fit
-returns-then-not-all-fit c =
+pub returns-then-not-all_fit : goal.returns-then-not-all_fit
+returns-then-not-all_fit c =
     let p = c.args.self.now in
     record {
       sound = tt;
@@ -19,20 +19,20 @@ returns-then-not-all-fit c =
       moved =
           take_refused p.n (current_of p) c.args.row.now
           (judged p.n c.args.row.now c.gathered-rows.result p.few (omega arith) (λ i. (c.type_inv.row i).fits) c.gathered-rows.ensures false
-          (sym c.all-fit.ensures ∙ c.if-not-all-fit.true));
+          (sym c.all_fit.ensures ∙ c.if-not-all_fit.true));
     }
 
-pub invariant-of-self : goal.invariant-of-self
-invariant-of-self c =
+pub invariant_of-self : goal.invariant_of-self
+invariant_of-self c =
     let p = c.args.self.now in
     let s = taken_rows p.n c.args.row.now c.gathered-rows.result p.few (omega arith) (λ i. (c.type_inv.row i).fits) c.gathered-rows.ensures
-    (sym c.all-fit.ensures ∙ c.if-not-all-fit.false) in
+    (sym c.all_fit.ensures ∙ c.if-not-all_fit.false) in
     (p.large, (p.few, (s.whole, (s.tied, tt))))
 
 pub returns : goal.returns
 returns c =
     let p = c.args.self.now in
-    let whole = sym c.all-fit.ensures ∙ c.if-not-all-fit.false in
+    let whole = sym c.all_fit.ensures ∙ c.if-not-all_fit.false in
     record {
       sound = tt;
       setup = refl;

@@ -12,8 +12,8 @@ pub loop-i-init : goal.loop-i-init
 unfolding count
 loop-i-init c = refl
 
-pub overflow-add-byte : goal.overflow-add-byte
-overflow-add-byte c =
+pub overflow_add-byte : goal.overflow_add-byte
+overflow_add-byte c =
     let S = set_of c.args.self.now.n c.args.self.now.rows in
     record {
       fits =

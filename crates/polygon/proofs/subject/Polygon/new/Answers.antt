@@ -7,14 +7,14 @@ use Rattle.polygon.proofs.Steps.{settled}
 use Rattle.polygon.proofs.Begun.{begun_good}
 use Rattle.polygon.proofs.subject.Polygon.new.Goals as goal
 
-pub invariant-of-result : goal.invariant-of-result
-invariant-of-result c =
+pub invariant_of-result : goal.invariant_of-result
+invariant_of-result c =
     let n = c.args.n in
-    let s = settled n (fan n) c.fan-rows-rows.result (fan_small n) (fan_triangulation n (omega arith) (omega arith)) c.fan-rows-rows.ensures in
+    let s = settled n (fan n) c.fan_rows-rows.result (fan_small n) (fan_triangulation n (omega arith) (omega arith)) c.fan_rows-rows.ensures in
     (omega arith, (omega arith, (s.whole, (s.tied, tt))))
 
 pub returns : goal.returns
 returns c =
     let n = c.args.n in
-    let s = settled n (fan n) c.fan-rows-rows.result (fan_small n) (fan_triangulation n (omega arith) (omega arith)) c.fan-rows-rows.ensures in
+    let s = settled n (fan n) c.fan_rows-rows.result (fan_small n) (fan_triangulation n (omega arith) (omega arith)) c.fan_rows-rows.ensures in
     record { made = begun_good n _ (omega arith) (omega arith) (ap code_of s.same); stands = stands n }

@@ -21,8 +21,8 @@ apart_is p = ap (λ (x : ℕ). bit_xor (x - 2) (get_or p.rows 0 0)) (one_shl p.n
 some_apart : (p : Polygon) → (apart p ≡ 0 → ⊥) → 0 < bit_xor (others p.n) (get_or p.rows 0 0)
 some_apart p h = omega (arith, apart_is p, h)
 
-pub overflow-sub-apart : goal.overflow-sub-apart
-overflow-sub-apart c =
+pub overflow_sub-apart : goal.overflow_sub-apart
+overflow_sub-apart c =
     let p = c.args.self.now in
     omega (arith, one_shl p.n 32 (omega arith), pow_mono {i = 1} {j = p.n} (omega arith))
 
@@ -34,26 +34,26 @@ returns-then-apart-eq0 c =
     (ap (home_slot p.n) (same_set p)
     ∙ home_none_is p.n (current_set p) p.rows (kept p) (sym (apart_is p) ∙ c.if-apart-eq0.true))
 
-pub first-gap-first-requires : goal.first-gap-first-requires
+pub first_gap-first-requires : goal.first_gap-first-requires
 unfolding apart
-first-gap-first-requires c =
+first_gap-first-requires c =
     let p = c.args.self.now in
     let l = first_below p.n (current_set p) p.rows (kept p) (some_apart p c.if-apart-eq0.false) in
     omega (arith, ap (count_trailing_zeros 32) (apart_is p), p.few)
 
-pub overflow-sub-first : goal.overflow-sub-first
+pub overflow_sub-first : goal.overflow_sub-first
 unfolding apart
-overflow-sub-first c =
+overflow_sub-first c =
     let p = c.args.self.now in
     let l = first_positive p.n (current_set p) p.rows (kept p) (some_apart p c.if-apart-eq0.false) in
-    let first = ap (λ (q : ℕ × ℕ). q.0) c.first-gap-first.ensures in
+    let first = ap (λ (q : ℕ × ℕ). q.0) c.first_gap-first.ensures in
     omega (arith, ap (count_trailing_zeros 32) (apart_is p))
 
 pub returns : goal.returns
 unfolding apart
 returns c =
     let p = c.args.self.now in
-    ap Some c.pair-number.ensures ∙ ap (λ (q : ℕ × ℕ). Some (number (q.0 - 1) q.1)) c.first-gap-first.ensures
+    ap Some c.pair_number.ensures ∙ ap (λ (q : ℕ × ℕ). Some (number (q.0 - 1) q.1)) c.first_gap-first.ensures
     ∙ sym
     (ap (home_slot p.n) (same_set p)
     ∙ home_some_is p.n (current_set p) p.rows (kept p) (some_apart p c.if-apart-eq0.false) (count_trailing_zeros 32 (apart p))

@@ -5,8 +5,8 @@ use Rattle.polygon.proofs.CornerZero.{rank_ones}
 use Rattle.polygon.proofs.Standing.{current_set, kept, same_set}
 use Rattle.polygon.proofs.walking.PolygonWalking.rank.Goals as goal
 
-pub overflow-sub-result-2 : goal.overflow-sub-result-2
-overflow-sub-result-2 c = let p = c.args.self.now in omega (arith, rank_ones p.n (current_set p) p.rows (kept p))
+pub overflow_sub-result-2 : goal.overflow_sub-result-2
+overflow_sub-result-2 c = let p = c.args.self.now in omega (arith, rank_ones p.n (current_set p) p.rows (kept p))
 
 pub returns : goal.returns
 returns c =

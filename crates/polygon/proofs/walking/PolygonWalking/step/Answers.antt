@@ -39,8 +39,8 @@ switch-requires-2 c =
     apexes_small p.n (current_set p) p.rows (kept p) c.args.slot m c.corners-a.result c.corners-a.ensures.value
     c.apexes-low.result c.apexes-low.ensures
 
-pub invariant-of-self : goal.invariant-of-self
-invariant-of-self c =
+pub invariant_of-self : goal.invariant_of-self
+invariant_of-self c =
     let p = c.args.self.now in
     let m = is_member p c.args.slot c.has.result c.has.ensures c.if-not-has.false in
     let s = after_step p.n (current_set p) p.rows (kept p) c.args.slot m c.corners-a.result c.corners-a.ensures.value
@@ -60,7 +60,7 @@ returns c =
       sound = tt;
       setup = refl;
       moved =
-          ap (λ (x : ℕ). (Ok (Back x), w)) c.pair-number.ensures
+          ap (λ (x : ℕ). (Ok (Back x), w)) c.pair_number.ensures
           ∙ step_done p.n (current_set p) c.args.slot (number q.0 q.1) w (same_set p) m f.replaces (ap code_of s.same)
           (omega (arith, c.pair_total.ensures.value));
     }

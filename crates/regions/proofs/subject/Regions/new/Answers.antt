@@ -2,8 +2,8 @@ use Rattle.std.proofs.Common.{refl}
 use Rattle.connected.proofs.Laws.{empty_set, code_decides}
 use Rattle.regions.proofs.subject.Regions.new.Goals as goal
 
-pub invariant-of-result : goal.invariant-of-result
-invariant-of-result c = let empty = empty_set c.args.map.now.n c.args.map.now.rows in (empty, (empty, tt))
+pub invariant_of-result : goal.invariant_of-result
+invariant_of-result c = let empty = empty_set c.args.map.now.n c.args.map.now.rows in (empty, (empty, tt))
 
 pub returns : goal.returns
 returns c =

@@ -7,4 +7,4 @@ use Rattle.regions.proofs.walking.RegionsWalking.home.Goals as goal
 pub returns : goal.returns
 returns c =
     let r = c.args.self.now in
-    c.first-to-leave.ensures ∙ ap (set_home r.map.n r.map.rows) (sym (number_code r.set (set_fits r)))
+    c.first_to_leave.ensures ∙ ap (set_home r.map.n r.map.rows) (sym (number_code r.set (set_fits r)))

@@ -7,10 +7,10 @@ use Rattle.sheets.proofs.state.State.after_line.Goals as goal
 pub returns-then-not-follows : goal.returns-then-not-follows
 returns-then-not-follows c =
     sym (out_of_place (state_of c.args.self) c.args.line
-    (ap (λ k. follows c.args.self.last k) (sym c.kind-of-line.ensures) ∙ sym c.if-not-follows.ensures))
+    (ap (λ k. follows c.args.self.last k) (sym c.kind_of_line.ensures) ∙ sym c.if-not-follows.ensures))
 
 pub returns : goal.returns
 returns c =
     c.set_by.ensures
     ∙ sym (in_place (state_of c.args.self) c.args.line
-    (ap (λ k. follows c.args.self.last k) (sym c.kind-of-line.ensures) ∙ sym c.if-not-follows.ensures))
+    (ap (λ k. follows c.args.self.last k) (sym c.kind_of_line.ensures) ∙ sym c.if-not-follows.ensures))
