@@ -6,7 +6,7 @@ use Rattle.polygon.specs.Rows.{Tied, bare}
 use Rattle.polygon.proofs.Gathering.{first_of, first_start, first_end, gathered_in, gathered_out}
 use Rattle.polygon.proofs.Agreement.{tied_same}
 use Rattle.polygon.proofs.coding.gathered.Goals as goal
-use Rattle.polygon.proofs.coding.gathered.Goals.{then-is-diagonal+then-digit-eq1, else-is_diagonal, else-is-diagonal-via-then-is-diagonal+else-digit-eq1, else-is-diagonal-via-else-is-diagonal}
+use Rattle.polygon.proofs.coding.gathered.Goals.{then-is_diagonal+then-digit-eq1, else-is_diagonal, else-is_diagonal-via-then-is_diagonal+else-digit-eq1, else-is_diagonal-via-else-is_diagonal}
 
 pub loop-e-init : goal.loop-e-init
 loop-e-init c =
@@ -21,14 +21,14 @@ loop-e-preserved c =
     let after = c.if-is_diagonal.rows in
     let skipped = gathered_out c.args.n S e rows c.requires.1.0 c.loop-e.invariant c.corners-a.result c.corners-a.ensures.value in
     elim c.if-is_diagonal.branch [
-      | then-is-diagonal+then-digit-eq1 w ↦
+      | then-is_diagonal+then-digit-eq1 w ↦
           gathered_in c.args.n S e rows c.requires.1.0 c.loop-e.invariant c.corners-a.result c.corners-a.ensures.value
           (sym w.if-is_diagonal.ensures) (sym w.digit.ensures ∙ w.if-digit-eq1.true) after (w.rows-is ∙ w.switch.ensures)
       | else-is_diagonal w ↦
           elim w.else-is_diagonal.branch [
-            | else-is-diagonal-via-then-is-diagonal+else-digit-eq1 w' ↦
+            | else-is_diagonal-via-then-is_diagonal+else-digit-eq1 w' ↦
                 skipped (λ h. omega (arith, members_small c.args.row.now e, w'.digit.ensures, w'.if-digit-eq1.false)) after w.rows-is
-            | else-is-diagonal-via-else-is-diagonal w' ↦
+            | else-is_diagonal-via-else-is_diagonal w' ↦
                 skipped (λ h. absurd (both_ways _ (sym w'.if-is_diagonal.ensures) h)) after w.rows-is
           ]
     ]

@@ -27,7 +27,7 @@ invariant_of-self c =
     let p = c.args.self.now in
     let s = taken_rows p.n c.args.row.now c.gathered-rows.result p.few (omega arith) (λ i. (c.type_inv.row i).fits) c.gathered-rows.ensures
     (sym c.all_fit.ensures ∙ c.if-not-all_fit.false) in
-    (p.large, (p.few, (s.whole, (s.tied, tt))))
+    record { large = p.large; few = p.few; whole = s.whole; tied = s.tied }
 
 pub returns : goal.returns
 returns c =

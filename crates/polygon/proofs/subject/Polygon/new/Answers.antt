@@ -11,7 +11,7 @@ pub invariant_of-result : goal.invariant_of-result
 invariant_of-result c =
     let n = c.args.n in
     let s = settled n (fan n) c.fan_rows-rows.result (fan_small n) (fan_triangulation n (omega arith) (omega arith)) c.fan_rows-rows.ensures in
-    (omega arith, (omega arith, (s.whole, (s.tied, tt))))
+    record { large = omega arith; few = omega arith; whole = s.whole; tied = s.tied }
 
 pub returns : goal.returns
 returns c =

@@ -45,7 +45,7 @@ invariant_of-self c =
     let m = is_member p c.args.slot c.has.result c.has.ensures c.if-not-has.false in
     let s = after_step p.n (current_set p) p.rows (kept p) c.args.slot m c.corners-a.result c.corners-a.ensures.value
     c.apexes-low.result c.apexes-low.ensures c.switch.new.rows c.switch-2.new.rows c.switch.ensures c.switch-2.ensures (omega arith) in
-    (p.large, (p.few, (s.whole, (s.tied, tt))))
+    record { large = p.large; few = p.few; whole = s.whole; tied = s.tied }
 
 pub returns : goal.returns
 returns c =

@@ -3,7 +3,7 @@ use Rattle.connected.proofs.Laws.{empty_set, code_decides}
 use Rattle.regions.proofs.subject.Regions.new.Goals as goal
 
 pub invariant_of-result : goal.invariant_of-result
-invariant_of-result c = let empty = empty_set c.args.map.now.n c.args.map.now.rows in (empty, (empty, tt))
+invariant_of-result c = let empty = empty_set c.args.map.now.n c.args.map.now.rows in record { stands = empty; stood = empty }
 
 pub returns : goal.returns
 returns c =
