@@ -1,4 +1,6 @@
 // Words of 64 binary digits: one digit read, set and turned.
+#![tactic(auto)]
+
 ghost use Rattle.std.specs.Prelude.{◌≡◌, ◌==◌};
 ghost use Rattle.digits.specs.Bits.{bit, with_digit, flip_digit};
 

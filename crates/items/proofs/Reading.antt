@@ -1,10 +1,10 @@
 -- What `part_at` gives at the end of a line, at a letter and at a space; the step of `read_on`.
-use Rattle.std.proofs.Common.{◌≡◌, ℕ, ◌+◌, ◌-◌, ◌*◌, ◌<◌, ◌≤◌, Bool, true, false, cond, eqb, List, [], ◌∷◌, length, get_or, take, drop, Some, None, Option, sym, refl, ap, ◌∙◌, arith}
+use Rattle.std.proofs.Common.{◌≡◌, ℕ, ◌+◌, ◌-◌, ◌*◌, ◌<◌, ◌≤◌, Bool, true, false, List, ◌∷◌, length, get_or, take, drop, Some, None, Option, ap, ◌∙◌, arith}
 use Rattle.std.specs.Char.{is_ascii_digit}
 use Rattle.std.specs.List.{prefix_len}
 use Rattle.std.proofs.lemmas.List.{at_drop_more, at_drop_all, take_rest}
 use Rattle.std.proofs.lemmas.Bool.{eq-eqb, ne_eqb, cond-true, cond-false}
-use Rattle.items.specs.Items.{Part, letter, number, break, part_from, part_at}
+use Rattle.items.specs.Items.{letter, number, break, part_from, part_at}
 use Rattle.items.specs.Numerals.{read_on}
 
 pub item_end : (line : List ℕ) (at : ℕ) → length line ≤ at → part_at line at ≡ (break, at)

@@ -1,5 +1,7 @@
 //! The first layer of a sheet: places, items that borrow from a line, numerals, and the line that
 //! items make up.
+#![tactic(auto)]
+
 mod item;
 mod lexer;
 mod line;

@@ -1,5 +1,7 @@
 //! The lines that a program prints, written at the end of a buffer.
 //! A line is written whole or not at all, and always where the buffer has the room.
+#![tactic(auto)]
+
 ghost use Rattle.std.specs.Prelude.{◌≡◌, ◌+◌, ◌≤◌, true, ◌++◌, length, is_ok, if◌then◌else◌, vec_len, vec_capacity};
 ghost use Rattle.lines.specs.Texts.{hex_room, hex_text, last_room, last_text, object_room, object_text};
 

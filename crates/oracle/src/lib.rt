@@ -1,4 +1,6 @@
 //! The adjacency oracle: what a set-up is, its list and its walk, and the two interfaces to it.
+#![tactic(auto)]
+
 pub mod coded;
 pub mod home;
 mod moves;

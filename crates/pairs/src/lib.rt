@@ -1,4 +1,6 @@
 //! The pairs (a, b), a < b < 24, of corners of a polygon, and the number of each.
+#![tactic(auto)]
+
 ghost use Rattle.std.specs.Prelude.{◌≡◌, ◌^◌, ◌<◌};
 ghost use Rattle.pairs.specs.Pairs.{number, corners_of, pair_count, Entry};
 

@@ -1,4 +1,6 @@
 //! The refusals of the engine: one enum, their numbers, and the layers of a sheet's faults.
+#![tactic(auto)]
+
 ghost use Rattle.std.specs.Prelude.{◌≡◌};
 ghost use Rattle.refusals.specs.Numbers.{number_of, layer_of};
 

@@ -1,4 +1,4 @@
-use Rattle.std.proofs.Common.{◌+◌, ◌-◌, ◌*◌, ◌^◌, ◌<◌, ◌≤◌, length, get_or, drop, sym, ◌∙◌, arith, pow-add}
+use Rattle.std.proofs.Common.{◌<◌, ◌≤◌, sym, ◌∙◌, arith, pow-add}
 use native.Mathlib.Nat.{pow-le-pow_right}
 use Rattle.items.proofs.Reading.{read_on_digit, read_on_other, read_on_end}
 use Rattle.items.proofs.numerals.read_digits.Goals as goal

@@ -6,22 +6,22 @@ use Rattle.pages.specs.Left.{left}
 use Rattle.pages.specs.Lines.{line_room, page_room}
 use Rattle.pages.specs.Turns.{turned}
 
-pub returns-in-err-page : goal.returns-in-err-page
-returns-in-err-page g c =
+pub returns-in_err-page : goal.returns-in_err-page
+returns-in_err-page g c =
     let W = g.O.Walking in
-    let stop = c.in-err-page.ensures.paged in
+    let stop = c.in_err-page.ensures.paged in
     let n = c.pages.invariant.turns in
     let far = pages_on stop.0 n (vec_items c.args.out.now) (vec_items c.pages.out) (vec_items c.page.new.out) (left W.setup W.current c.new-pager.result) (left W.setup W.current c.pages.pager) (left W.setup W.current c.page.new.self) c.pages.invariant.turned_so_far stop.2 in
     let l = c.pages in
     let s = W.setup c.args.oracle in
     record {
       listed =
-          stopped_short c.from-residual.result (n + stop.0) (vec_items c.args.out.now) (vec_items c.page.new.out) _ c.from-residual.ensures.0
+          stopped_short c.from_residual.result (n + stop.0) (vec_items c.args.out.now) (vec_items c.page.new.out) _ c.from_residual.ensures.0
           (ap (λ x. x.0) far ∙ ap (λ l. vec_items c.args.out.now ++ concat (take (n + stop.0) l)) c.new-pager.ensures.lines);
       succeeds = λ enough.
           let all = subst (λ t. vec_len c.args.out.now + (length (concat t) + line_room s) ≤ vec_capacity c.args.out.now) (sym c.new-pager.ensures.lines) enough in
           let room = room_onward c.max-lines.result n (line_room s) c.args.out.now l.out (left W.setup W.current c.new-pager.result) (left W.setup W.current l.pager) l.invariant.capacity l.invariant.turned_so_far all in
-          let f = c.in-err-page.ensures.succeeds (subst (λ t. vec_len l.out + page_room t c.max-lines.result (left W.setup W.current l.pager) ≤ vec_capacity l.out) (sym (l.invariant.setup_same ∙ c.new-pager.ensures.setup)) room) in
+          let f = c.in_err-page.ensures.succeeds (subst (λ t. vec_len l.out + page_room t c.max-lines.result (left W.setup W.current l.pager) ≤ vec_capacity l.out) (sym (l.invariant.setup_same ∙ c.new-pager.ensures.setup)) room) in
           let z : ◌≡◌ {A = ℕ} 0 1 = cc in
           absurd (omega arith);
     }
@@ -29,10 +29,10 @@ returns-in-err-page g c =
 pub returns-then-branch : goal.returns-then-branch
 returns-then-branch g c =
     let W = g.O.Walking in
-    let h = c.in-ok-page.ensures.paged in
+    let h = c.in_ok-page.ensures.paged in
     record {
       listed =
-          pages_end c.in-ok-page.field-0 c.max-lines.result c.pages.invariant.turns (vec_items c.args.out.now) (vec_items c.pages.out) (vec_items c.page.new.out) (left W.setup W.current c.new-pager.result) (left W.setup W.current c.pages.pager) (left W.setup W.current c.page.new.self) c.pages.invariant.turned_so_far h.0 c.if-branch.true h.1
+          pages_end c.in_ok-page.field-0 c.max-lines.result c.pages.invariant.turns (vec_items c.args.out.now) (vec_items c.pages.out) (vec_items c.page.new.out) (left W.setup W.current c.new-pager.result) (left W.setup W.current c.pages.pager) (left W.setup W.current c.page.new.self) c.pages.invariant.turned_so_far h.0 c.if-branch.true h.1
           ∙ ap (λ l. vec_items c.args.out.now ++ concat l) c.new-pager.ensures.lines;
       succeeds = λ _. refl;
     }
@@ -40,14 +40,14 @@ returns-then-branch g c =
 pub pages-smaller : goal.pages-smaller
 pages-smaller g c =
     let W = g.O.Walking in
-    let h = c.in-ok-page.ensures.paged in
+    let h = c.in_ok-page.ensures.paged in
     let some : 1 ≤ c.max-lines.result = omega (arith, c.max-lines.ensures) in
-    pages_fall c.in-ok-page.field-0 c.max-lines.result (vec_items c.pages.out) (vec_items c.page.new.out) (left W.setup W.current c.pages.pager) (left W.setup W.current c.page.new.self) h.0 c.if-branch.false some h.1
+    pages_fall c.in_ok-page.field-0 c.max-lines.result (vec_items c.pages.out) (vec_items c.page.new.out) (left W.setup W.current c.pages.pager) (left W.setup W.current c.page.new.self) h.0 c.if-branch.false some h.1
 
 pub pages-preserved : goal.pages-preserved
 pages-preserved g c =
     let W = g.O.Walking in
-    let h = c.in-ok-page.ensures in
+    let h = c.in_ok-page.ensures in
     record {
       sound_now = h.sound;
       setup_same = h.setup ∙ c.pages.invariant.setup_same;

@@ -18,23 +18,23 @@ loop-lines-preserved g c =
       within = omega arith;
       capacity = omega (arith, c.turn.ensures.capacity);
       turned_so_far =
-          c.in-ok-turn.ensures.lined
+          c.in_ok-turn.ensures.lined
           ∙ ap (λ p. turned 1 p.0 p.1) c.loop-lines.invariant.turned_so_far
           ∙ turned_more 1 c.loop-lines.lines bytes from;
     }
 
-pub returns-in-err-turn : goal.returns-in-err-turn
-returns-in-err-turn g c =
+pub returns-in_err-turn : goal.returns-in_err-turn
+returns-in_err-turn g c =
     let W = g.O.Walking in
     let l = c.loop-lines in
     let from = left W.setup W.current c.args.self.now in
-    let stop = c.in-err-turn.ensures in
+    let stop = c.in_err-turn.ensures in
     let s = W.setup c.args.self.now.census.oracle in
     record {
       sound = stop.sound;
       setup = stop.setup ∙ l.invariant.setup_same;
       filled =
-          stops_short c.from-residual.result l.lines c.args.limit (vec_items c.args.out.now) (vec_items c.turn.new.out) from (left W.setup W.current c.turn.new.self) c.turn.new.self.done c.from-residual.ensures.0 c.loop-lines-test.true
+          stops_short c.from_residual.result l.lines c.args.limit (vec_items c.args.out.now) (vec_items c.turn.new.out) from (left W.setup W.current c.turn.new.self) c.turn.new.self.done c.from_residual.ensures.0 c.loop-lines-test.true
           (stop.lined ∙ l.invariant.turned_so_far);
       capacity = omega (arith, stop.capacity);
       succeeds = λ enough.

@@ -21,13 +21,13 @@ returns g c =
       sound = c.requires.sound;
       setup = refl;
       lined =
-          finishes s v self.most self.printed (vec_items c.args.out.now) (vec_items c.last-line.new.out) c.rank.result c.is-none-whole.result self.done c.tally-tally.result from small
+          finishes s v self.most self.printed (vec_items c.args.out.now) (vec_items c.last_line.new.out) c.rank.result c.is_none-whole.result self.done c.tally-tally.result from small
           c.requires.undone
           c.requires.due
           c.rank.ensures
-          c.is-none-whole.ensures
+          c.is_none-whole.ensures
           c.tally-tally.ensures
-          c.in-ok-last-line.ensures.items;
-      capacity = c.last-line.ensures.capacity;
+          c.in_ok-last_line.ensures.items;
+      capacity = c.last_line.ensures.capacity;
       succeeds = λ _. refl;
     }

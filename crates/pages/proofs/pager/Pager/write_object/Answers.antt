@@ -9,15 +9,15 @@ use Rattle.pages.proofs.Reading.{read_code}
 use Rattle.pages.proofs.pager.Pager.write_object.Goals as goal
 use Rattle.pages.specs.Lines.{spot_line}
 
-pub returns-in-default : goal.returns-in-default
-returns-in-default g c =
+pub returns-in_default : goal.returns-in_default
+returns-in_default g c =
     let W = g.O.Walking in
     let census = c.args.self.now.census in
     let s = W.setup census.oracle in
     let spot = at s (shown W.setup W.current census).stand.place in
     let bytes = vec_items c.args.out.now in
     record {
-      items = sym (append-nil bytes) ∙ sym (ap (λ t. bytes ++ t) (none_here s spot c.in-default.ensures));
+      items = sym (append-nil bytes) ∙ sym (ap (λ t. bytes ++ t) (none_here s spot c.in_default.ensures));
       capacity = omega arith;
       succeeds = λ _. refl;
     }
