@@ -1,7 +1,7 @@
 -- What a step below tells of the capped step, and a code taken below of the capped take.
-use Rattle.std.proofs.Common.{◌≡◌, ℕ, ◌-◌, ◌<◌, ◌≤◌, Bool, true, false, cond, ◌&&◌, ltb, leb, List, ◌++◌, length, take, drop, replicate, Ok, Err, Result, sym, refl, ap, ◌∙◌, subst, arith}
-use Rattle.std.proofs.lemmas.List.{take_at, length-replicate}
-use Rattle.std.proofs.lemmas.Bool.{ltb-true, lt-ltb, le-ltb, lt-leb, and_right, cond-false, cases_lt}
+use Rattle.std.proofs.Common.{◌≡◌, ℕ, ◌-◌, ◌<◌, ◌≤◌, Bool, true, false, ltb, leb, List, ◌++◌, length, take, drop, Ok, Err, Result, sym, refl, ap, ◌∙◌, arith}
+use Rattle.std.proofs.lemmas.List.{take_at}
+use Rattle.std.proofs.lemmas.Bool.{ltb-true, lt-ltb, le-ltb, lt-leb, and_right, cond-false}
 use Rattle.refusals.specs.declared.Refusal.{Refusal}
 use Rattle.refusals.specs.declared.Refusal.TheVariants.{BufferShort, NotACode, SlotRange}
 use Rattle.oracle.specs.Calls.{into, stepped, written, taken}
@@ -10,7 +10,7 @@ use Rattle.oracle.specs.Setup.{Code, Setup, Slot, vacant, filled}
 use Rattle.oracle.specs.declared.step.Step.{Step}
 use Rattle.oracle.specs.declared.step.Step.TheVariants.{Vacant, Back}
 use Rattle.cap.specs.Capped.{kept, capped}
-use Rattle.cap.specs.Laws.{object_from, kept_low}
+use Rattle.cap.specs.Laws.{kept_low}
 
 Answer : Type 0
 Answer = Result Step Refusal × Code

@@ -1,7 +1,7 @@
 -- A set-up cut at a rank: the objects of at most that rank, and the slots that lead to one of them.
 -- All else is as below.
-use Rattle.std.specs.Prelude.{ℕ, min, Bool, cond, ◌&&◌, nat_le}
-use Rattle.oracle.specs.Setup.{Code, Setup, Slot, vacant, filled}
+use Rattle.std.specs.Prelude.{ℕ, min, cond, ◌&&◌, nat_le}
+use Rattle.oracle.specs.Setup.{Setup, Slot, vacant, filled}
 
 -- a slot that leads to a rank above c is vacant
 unfoldable pub kept : ℕ → Setup → Slot → Slot

@@ -1,5 +1,5 @@
 -- What a draft and a map hold, without the facts that their types carry.
-use Rattle.std.specs.Prelude.{ℕ, true, false, List, Ok, Err, Result}
+use Rattle.std.specs.Prelude.{ℕ, List, Ok, Err, Result}
 use Rattle.maps.specs.Touch.{Regions, Touching}
 use Rattle.maps.specs.declared.draft.Draft.{Draft}
 use Rattle.maps.specs.declared.map.Map.{Map}

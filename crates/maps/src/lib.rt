@@ -1,4 +1,6 @@
 //! Maps of regions: a draft takes pairs that touch, and is sealed into a map that takes none.
+#![tactic(auto)]
+
 mod draft;
 mod drafting;
 mod map;

@@ -1,4 +1,6 @@
 //! What is said of a sheet: its fault, or what it asks for.
+#![tactic(auto)]
+
 ghost use Rattle.std.specs.Prelude.{◌≡◌, IfOk, string_bytes};
 ghost use Rattle.sheets.specs.Views.{plan_of, subject_of};
 ghost use Rattle.reports.specs.Lines.{fault_text, letter_of, size_of, pairs_of, plan_text, verdict_on};

@@ -1,6 +1,6 @@
 -- A sheet that is written from good values is read as the plan of those values.
-use Rattle.std.proofs.Common.{◌≡◌, ℕ, ◌+◌, ◌^◌, ◌<◌, ◌≤◌, Bool, true, false, cond, ◌&&◌, ◌||◌, eqb, leb, ◌≢◌, ◌⊎◌, List, [], ◌∷◌, ◌++◌, map, length, IfSome, Some, None, Ok, Err, decimal, Option, Result, unwrap_or, sym, refl, ap, ◌∙◌, subst, inl, inr, arith}
-use Rattle.std.specs.List.{flat_map, AllByRecursion as All}
+use Rattle.std.proofs.Common.{◌≡◌, ℕ, ◌+◌, ◌^◌, ◌<◌, ◌≤◌, Bool, true, false, cond, ◌&&◌, ◌||◌, eqb, leb, ◌≢◌, List, [], ◌∷◌, ◌++◌, map, length, IfSome, Some, None, Ok, Err, decimal, Option, Result, unwrap_or, sym, refl, ap, ◌∙◌, arith}
+use Rattle.std.specs.List.{AllByRecursion as All}
 use Rattle.std.specs.Char.{is_ascii_digit}
 use Rattle.std.specs.Str.{all_ascii_digits}
 use Rattle.std.proofs.lemmas.List.{append_assoc}
@@ -8,7 +8,6 @@ use Rattle.std.proofs.lemmas.Bool.{and_parts, and_from, le-leb, lt-leb, ne_eqb, 
 use Rattle.std.proofs.lemmas.Bool.Decides.{nat_tests}
 use Rattle.refusals.specs.declared.Refusal.{Refusal}
 use Rattle.refusals.specs.declared.Refusal.TheVariants.{OutOfRange, BadPair, SheetLong}
-use Rattle.items.specs.Lines.{line_of}
 use Rattle.items.specs.Texts.{text_of, Short}
 use Rattle.items.specs.declared.line.Kind.{Kind}
 use Rattle.items.specs.declared.line.Kind.TheVariants as kind
@@ -21,8 +20,8 @@ use Rattle.maps.specs.Touch.{bare, begun, with_pair, pair_fault}
 use Rattle.maps.proofs.Tables.{begun_good}
 use Rattle.sheets.specs.Cut.{Cut, cut}
 use Rattle.sheets.specs.Order.{kind_of_line, follows, stopped}
-use Rattle.sheets.specs.Reading.{Wanted, at_line, most_bytes, read_from, read_all, at_end}
-use Rattle.sheets.specs.Settings.{Settings, Topic, regions, polygon, unset, height_of, regions_with, polygon_with, pair_among, counted, with_topic, with_cap, with_most, set_by, after_line, most_number}
+use Rattle.sheets.specs.Reading.{Wanted, at_line, most_bytes, read_from, read_all}
+use Rattle.sheets.specs.Settings.{Settings, Topic, regions, polygon, unset, height_of, regions_with, polygon_with, pair_among, counted, with_topic, with_cap, with_most, set_by, most_number}
 use Rattle.sheets.specs.Written.{Content, Subject, of_regions, of_polygon, Good, GoodPair, GoodSubject, sheet_of, pair_line, subject_lines, cap_lines, lines_of, written, table_after, topic_for, wanted_for}
 use Rattle.sheets.specs.declared.fault.Fault.{Fault}
 use Rattle.sheets.proofs.Cuts.{cut_line}

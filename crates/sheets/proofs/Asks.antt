@@ -1,12 +1,12 @@
 -- Every sheet that is accepted is the writing of what it is accepted as.
-use Rattle.std.proofs.Common.{◌≡◌, ℕ, ◌+◌, ◌<◌, ◌≤◌, Bool, true, false, cond, ◌&&◌, ◌||◌, eqb, leb, ◌≢◌, ◌⊎◌, List, [], ◌∷◌, ◌++◌, map, length, IfSome, Some, None, Ok, Err, Option, Result, unwrap_or, sym, refl, ap, ◌∙◌, subst, inl, inr, arith}
+use Rattle.std.proofs.Common.{◌≡◌, ℕ, ◌+◌, ◌<◌, ◌≤◌, Bool, true, false, cond, ◌&&◌, eqb, leb, ◌⊎◌, List, [], ◌∷◌, ◌++◌, map, length, IfSome, Some, None, Ok, Err, Option, Result, unwrap_or, sym, refl, ap, ◌∙◌, subst, inl, inr}
 use Rattle.std.specs.List.{flat_map, AllByRecursion as All}
 use Rattle.std.proofs.lemmas.List.{append-nil}
 use Rattle.std.proofs.lemmas.Bool.{and_parts, leb-true, eqb-true, cond-true, cond-false, cases_lt}
 use Rattle.refusals.specs.declared.Refusal.{Refusal}
-use Rattle.refusals.specs.declared.Refusal.TheVariants.{LineOrder, OutOfRange, BadPair, SheetShort, SheetLong}
+use Rattle.refusals.specs.declared.Refusal.TheVariants.{LineOrder, OutOfRange, SheetShort}
 use Rattle.items.specs.Lines.{line_of}
-use Rattle.items.specs.Texts.{text_of, Short}
+use Rattle.items.specs.Texts.{text_of}
 use Rattle.items.specs.declared.line.Kind.{Kind}
 use Rattle.items.specs.declared.line.Kind.TheVariants as kind
 use Rattle.items.specs.declared.line.Line.{Line}
@@ -19,10 +19,9 @@ use Rattle.maps.proofs.Tables.{begun_is, pair_good, after_good, meant}
 use Rattle.sheets.specs.Cut.{Cut, cut, in_front}
 use Rattle.sheets.specs.Laws.{Accepting, Asked, Meant}
 use Rattle.sheets.specs.Order.{kind_of_line, follows, stopped}
-use Rattle.sheets.specs.Reading.{Wanted, at_line, most_bytes, after_bytes, at_end, wanted_by, faulted, read_from, read_all}
-use Rattle.sheets.specs.Settings.{Settings, Topic, regions, polygon, unset, height_of, regions_with, polygon_with, pair_among, pair_in, pair_after, counted, with_topic, with_cap, with_most, set_by, after_line, most_number}
-use Rattle.sheets.specs.Written.{Content, Subject, of_regions, of_polygon, Good, GoodPair, GoodSubject, sheet_of, pair_line, subject_lines, cap_lines, lines_of, written, table_after, topic_for, wanted_for}
-use Rattle.sheets.specs.declared.fault.Fault.{Fault}
+use Rattle.sheets.specs.Reading.{Wanted, most_bytes, at_end, wanted_by, faulted, read_from, read_all}
+use Rattle.sheets.specs.Settings.{Settings, Topic, regions, polygon, unset, height_of, regions_with, polygon_with, counted, with_topic, with_cap, with_most, set_by, after_line, most_number}
+use Rattle.sheets.specs.Written.{Content, Subject, of_regions, of_polygon, Good, GoodPair, GoodSubject, sheet_of, pair_line, cap_lines, lines_of, table_after, topic_for, wanted_for}
 use Rattle.sheets.proofs.Accepts.{good_pair, pair_set, pair_unset, read_short, read_long, reads_written}
 use Rattle.sheets.proofs.Sequence.{InBody, body, in_body, never_again, no_true}
 use Rattle.sheets.proofs.Steps.{in_place, out_of_place, bytes_stopped, bytes_bad, bytes_good, read_on, read_fault}

@@ -1,7 +1,7 @@
 -- A sheet cut at its first byte 10, and what cutting the lines of a written sheet gives.
 use Rattle.std.proofs.Common.{◌≡◌, ℕ, suc, ◌+◌, ◌<◌, ◌≤◌, Bool, true, false, cond, not, eqb, ◌≢◌, List, [], ◌∷◌, ◌++◌, length, take, drop, sym, refl, ap, ◌∙◌, add-one, arith}
-use Rattle.std.specs.List.{prefix_len, AllByRecursion as All}
-use Rattle.std.proofs.lemmas.Bool.{ne_eqb, cond-true, cond-false}
+use Rattle.std.specs.List.{AllByRecursion as All}
+use Rattle.std.proofs.lemmas.Bool.{ne_eqb}
 use Rattle.sheets.specs.Cut.{Cut, cut, in_front, line_length}
 
 by_break : ℕ → List ℕ → Bool → Cut

@@ -1,5 +1,5 @@
 -- The reader's fault is the first one: of the first line that has any, the first that applies there.
-use Rattle.std.proofs.Common.{◌≡◌, ℕ, zero, suc, ◌+◌, ◌-◌, ◌<◌, ◌≤◌, Bool, true, false, cond, not, ◌&&◌, ◌||◌, eqb, ltb, leb, ◌≢◌, ◌⊎◌, ◌↔◌, List, [], ◌∷◌, ◌++◌, map, length, take, is_some, Some, None, Ok, Err, Option, Result, sym, refl, ap, ◌∙◌, subst, inl, inr, add-one, arith}
+use Rattle.std.proofs.Common.{◌≡◌, ℕ, zero, suc, ◌+◌, ◌-◌, ◌<◌, ◌≤◌, Bool, true, false, cond, not, ◌&&◌, ◌||◌, eqb, leb, ◌⊎◌, ◌↔◌, List, [], ◌∷◌, ◌++◌, length, take, is_some, Some, None, Ok, Err, Option, Result, sym, refl, ap, ◌∙◌, subst, inl, inr, arith}
 use Rattle.std.specs.Result.{result_ok}
 use Rattle.std.proofs.lemmas.List.{append-nil, append_assoc, length-append}
 use Rattle.std.proofs.lemmas.Bool.{le-leb, or_left, cond-true, cond-false, cases_lt}
@@ -14,7 +14,7 @@ use Rattle.items.specs.declared.line.Line.TheVariants.{Regions, Polygon, Pair, C
 use Rattle.items.proofs.Texts.{spells, bad_line}
 use Rattle.maps.specs.Touch as touch
 use Rattle.maps.specs.Touch.{bare, can_have, begun, pair_fault}
-use Rattle.sheets.specs.Cut.{Cut, cut}
+use Rattle.sheets.specs.Cut.{cut}
 use Rattle.sheets.specs.Faults.{
   Here,
   whole,

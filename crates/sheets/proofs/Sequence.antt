@@ -1,5 +1,5 @@
 -- Which kinds of lines may come behind which.
-use Rattle.std.proofs.Common.{◌≡◌, ℕ, Bool, true, false, Some, None, refl, arith}
+use Rattle.std.proofs.Common.{◌≡◌, ℕ, true, false, Some, None, refl, arith}
 use Rattle.items.specs.declared.line.Kind.{Kind}
 use Rattle.items.specs.declared.line.Kind.TheVariants.{Regions, Polygon, Pair, Cap, Stop}
 use Rattle.sheets.specs.Order.{follows, stopped}

@@ -1,5 +1,5 @@
 -- A sheet cut into its finished lines, each without its byte 10, and what follows the last of them.
-use Rattle.std.specs.Prelude.{ℕ, Bool, true, false, not, List, [], ◌∷◌, ◌==◌}
+use Rattle.std.specs.Prelude.{ℕ, true, false, not, List, [], ◌∷◌, ◌==◌}
 use Rattle.std.specs.List.{prefix_len}
 
 pub record Cut : Type 0 where

@@ -1,5 +1,5 @@
 -- The order of the kinds of lines: the subject, pairs, at most one cap, the full stop.
-use Rattle.std.specs.Prelude.{ℕ, Bool, true, false, ◌&&◌, ◌||◌, Some, None, Option, ◌==◌, nat_lt}
+use Rattle.std.specs.Prelude.{ℕ, Bool, false, ◌&&◌, ◌||◌, Some, None, Option, ◌==◌, nat_lt}
 use Rattle.items.specs.declared.line.Kind.{Kind}
 use Rattle.items.specs.declared.line.Kind.TheVariants.{Regions, Polygon, Pair, Cap, Stop}
 use Rattle.items.specs.declared.line.Line.{Line}

@@ -1,10 +1,10 @@
 -- How a sheet is read: one function a line and a fold over the lines.
-use Rattle.std.specs.Prelude.{ℕ, ◌+◌, Bool, true, false, List, [], ◌∷◌, length, Some, None, Ok, Err, Option, Result, nat_le}
+use Rattle.std.specs.Prelude.{ℕ, ◌+◌, true, false, List, [], ◌∷◌, length, Some, None, Ok, Err, Option, Result, nat_le}
 use Rattle.std.specs.Option.{unwrap_or}
 use Rattle.refusals.specs.declared.Refusal.{Refusal}
 use Rattle.refusals.specs.declared.Refusal.TheVariants.{LineOrder, SheetShort, SheetLong}
 use Rattle.items.specs.Lines.{line_of}
-use Rattle.sheets.specs.Cut.{Cut, cut}
+use Rattle.sheets.specs.Cut.{cut}
 use Rattle.sheets.specs.Order.{stopped}
 use Rattle.sheets.specs.Settings.{Settings, Topic, unset, height_of, after_line}
 use Rattle.sheets.specs.declared.fault.Fault.{Fault}

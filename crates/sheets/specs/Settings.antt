@@ -1,5 +1,5 @@
 -- The set-up that lines make: what has been asked for so far, and what one line more does to it.
-use Rattle.std.specs.Prelude.{ℕ, ◌-◌, Bool, true, false, cond, ◌&&◌, ◌||◌, Some, None, Ok, Err, Option, Result, nat_le}
+use Rattle.std.specs.Prelude.{ℕ, ◌-◌, true, false, cond, ◌&&◌, ◌||◌, Some, None, Ok, Err, Option, Result, nat_le}
 use Rattle.refusals.specs.declared.Refusal.{Refusal}
 use Rattle.refusals.specs.declared.Refusal.TheVariants.{LineOrder, OutOfRange, BadPair}
 use Rattle.items.specs.declared.line.Kind.{Kind}

@@ -1,5 +1,4 @@
 -- What a plan and the reader's own settings hold, without the facts that maps and drafts carry.
-use Rattle.std.specs.Prelude.{ℕ, Some, None, Option}
 use Rattle.std.specs.Option.{option_map}
 use Rattle.maps.specs.Views.{drafted, mapped_out}
 use Rattle.sheets.specs.Reading.{Wanted}

@@ -1,4 +1,6 @@
 //! Sheets: the order of lines, the set-up that their values make, and the reader over both.
+#![tactic(auto)]
+
 mod fault;
 mod faults;
 mod order;

@@ -1,4 +1,6 @@
 //! A path of three objects: the smallest oracle in which two slots lead to one child.
+#![tactic(auto)]
+
 ghost use Rattle.std.specs.Prelude.{◌≡◌, ◌<◌};
 ghost use Rattle.tiny_path.specs.Laws.{path_lawful, path_stands};
 ghost use Rattle.tiny_path.specs.Listed.{Listed};

@@ -7,7 +7,7 @@ pub loop-rest-preserved : goal.loop-rest-preserved
 loop-rest-preserved c =
     let long : 2 ≤ length c.loop-rest.rest.now = omega (arith, ltb-false) in
     decode_on (vec_items c.loop-rest.bytes) (vec_items c.push.new.self) c.loop-rest.rest.now (bytes_of c.args.digits.now)
-    c.byte-value.result c.in-ok-push.ensures.items long c.byte-value.ensures c.loop-rest.invariant
+    c.byte_value.result c.in_ok-push.ensures.items long c.byte_value.ensures c.loop-rest.invariant
 
 pub returns : goal.returns
 returns c =

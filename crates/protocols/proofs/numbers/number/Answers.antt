@@ -2,9 +2,9 @@ use Rattle.std.proofs.Common.{rules}
 use Rattle.protocols.specs.Values.{number_at}
 use Rattle.protocols.proofs.numbers.number.Goals as goal
 
-pub returns-then-not-is-trim : goal.returns-then-not-is-trim
+pub returns-then-not-is_trim : goal.returns-then-not-is_trim
 unfolding number_at
-returns-then-not-is-trim c = search rules
+returns-then-not-is_trim c = search rules
 
 pub returns : goal.returns
 unfolding number_at

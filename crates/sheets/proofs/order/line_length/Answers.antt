@@ -1,6 +1,6 @@
 use Rattle.std.proofs.Common.{◌≡◌, ◌<◌, not, eqb, length, get_or, Some, None, ap, ◌∙◌, arith}
-use Rattle.std.proofs.lemmas.List.Sums.{prefix_len-drop_yes, prefix_len-drop_no, prefix_len-drop_all}
-use Rattle.std.proofs.lemmas.Bool.{eq-eqb, ne_eqb, cond_below, cond_above}
+use Rattle.std.proofs.lemmas.List.Sums.{prefix_len-drop_yes, prefix_len-drop_no}
+use Rattle.std.proofs.lemmas.Bool.{eq-eqb, ne_eqb, cond_below}
 use Rattle.sheets.specs.Cut.{line_length}
 use Rattle.sheets.proofs.order.line_length.Goals as goal
 

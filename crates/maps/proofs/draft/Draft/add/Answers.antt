@@ -1,4 +1,4 @@
-use Rattle.std.proofs.Common.{◌≡◌, ◌<◌, length, Ok, sym, refl, ap, ◌∙◌, subst, arith}
+use Rattle.std.proofs.Common.{◌≡◌, ◌<◌, length, Ok, sym, ap, ◌∙◌, subst, arith}
 use Rattle.maps.specs.Touch.{Mutual, Inside}
 use Rattle.maps.proofs.Tables.{mutual_with_pair, inside_with_pair, entered_twice, offered_good, pair_good}
 use Rattle.maps.proofs.draft.Draft.add.Goals as goal
@@ -16,7 +16,7 @@ invariant_of-self c =
       «mutual» = subst (λ t. Mutual t) (sym both) (mutual_with_pair c.args.self.now.rows c.args.a c.args.b long ha hb c.args.self.now.«mutual»);
       inside =
           subst (λ t. Inside c.args.self.now.n t) (sym both)
-              (inside_with_pair c.args.self.now.n c.args.self.now.rows c.args.a c.args.b long (omega arith) good.0 good.1 c.args.self.now.inside);
+          (inside_with_pair c.args.self.now.n c.args.self.now.rows c.args.a c.args.b long (omega arith) good.0 good.1 c.args.self.now.inside);
     }
 
 pub returns : goal.returns

@@ -1,4 +1,4 @@
-use Rattle.std.proofs.Common.{refl, arith}
+use Rattle.std.proofs.Common.{arith}
 use Rattle.maps.specs.Touch.{bare}
 use Rattle.maps.proofs.Tables.{mutual_bare, inside_bare, begun_good}
 use Rattle.maps.proofs.draft.Draft.new.Goals as goal

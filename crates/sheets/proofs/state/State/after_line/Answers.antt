@@ -1,5 +1,5 @@
-use Rattle.std.proofs.Common.{◌≡◌, sym, ap, ◌∙◌}
-use Rattle.sheets.specs.Order.{follows, kind_of_line}
+use Rattle.std.proofs.Common.{sym, ap, ◌∙◌}
+use Rattle.sheets.specs.Order.{follows}
 use Rattle.sheets.specs.Views.{state_of}
 use Rattle.sheets.proofs.Steps.{in_place, out_of_place}
 use Rattle.sheets.proofs.state.State.after_line.Goals as goal
