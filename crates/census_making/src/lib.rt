@@ -1,4 +1,6 @@
 //! A census is made over an oracle, and over nothing else: one over a draft does not compile.
+#![tactic(auto)]
+
 ghost use Rattle.std.specs.Prelude.{◌≡◌};
 ghost use Rattle.engine.specs.View.{shown, begun};
 ghost use Rattle.tiny_path.specs.Setup.{code, path};

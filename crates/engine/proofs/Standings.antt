@@ -3,7 +3,7 @@ use Rattle.std.proofs.Common.{◌≡◌, ℕ, ◌+◌, ◌<◌, ◌≤◌, ◌�
 use Rattle.std.proofs.lemmas.Bool.{cases_lt}
 use Rattle.oracle.proofs.Complete.{complete}
 use Rattle.oracle.specs.Laws.{Object, Lawful}
-use Rattle.oracle.specs.Places.{at, place, objects}
+use Rattle.oracle.specs.Places.{at, objects}
 use Rattle.oracle.specs.Setup.{Code, Setup}
 use Rattle.oracle.specs.Walk.{on, past}
 use Rattle.engine.specs.Stand.{object_at, standing_at, stand_of}

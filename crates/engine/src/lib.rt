@@ -1,4 +1,6 @@
 //! The census over any adjacency oracle: its acts, one by one and as lists.
+#![tactic(auto)]
+
 pub mod act;
 pub mod call;
 pub mod census;

@@ -168,7 +168,7 @@ fn round_trips(rt: HostRuntime) -> Result<(), Fail> {
         let Some(read) = calls.get(1) else {
             return Err(Fail::new("nothing read"));
         };
-        assert!(rt; read.bytes.as_slice() == &[*set, 0, 0, 0, 0, 0, 0, 0]);
+        assert!(rt; read.bytes.as_slice() == [*set, 0, 0, 0, 0, 0, 0, 0].as_slice());
     }
     Ok(())
 }

@@ -1,5 +1,5 @@
 -- Small censuses worked out by hand, and the statement that the definitions of the contracts give them.
-use Rattle.std.specs.Prelude.{◌≡◌, ℕ, ◌/◌, ◌%◌, List, [], ◌∷◌, map, drop, set, replicate, slice_index, slice_set}
+use Rattle.std.specs.Prelude.{◌≡◌, ℕ, ◌/◌, ◌%◌, List, [], ◌∷◌, map, drop, replicate, slice_index, slice_set}
 use Rattle.std.specs.List.{AllByRecursion as All}
 use Rattle.digits.specs.Bits.{with_digit}
 use Rattle.maps.specs.Touch.{bare}

@@ -1,12 +1,10 @@
 -- A row that was judged well, and the code in it.
-use Rattle.std.proofs.Common.{◌≡◌, ℕ, ◌+◌, ◌<◌, Bool, true, false, eqb, List, take, drop, Ok, Err, Result, sym, refl, ap, ◌∙◌, arith}
-use Rattle.std.proofs.lemmas.List.{get_or-take, get_or-drop}
+use Rattle.std.proofs.Common.{◌≡◌, ℕ, ◌+◌, Bool, true, false, eqb, List, Ok, Err, Result, sym, refl, ap, ◌∙◌}
 use Rattle.std.specs.List.{between}
 use Rattle.refusals.specs.declared.Refusal.{Refusal}
 use Rattle.refusals.specs.declared.Refusal.TheVariants.{NotACode}
 use Rattle.oracle.specs.Calls.{taken}
 use Rattle.oracle.specs.Setup.{Code, Setup}
-use Rattle.marks.specs.Bytes.{four_at}
 use Rattle.marks.specs.Opening.{size_in, code_in, recognized, decoded, moved_to}
 
 module _ (s : Setup) (v : Code) (row : List ℕ) (k : ℕ) (judged : Result ℕ Refusal) (e : Ok k ≡ judged) where

@@ -1,4 +1,6 @@
 //! Sets as masks of 64 digits, and their codes of 8 bytes.
+#![tactic(auto)]
+
 ghost use Rattle.std.specs.Prelude.{◌≡◌};
 ghost use Rattle.oracle.specs.Laws.{Lawful};
 ghost use Rattle.masks.specs.Codes.{read_code, written_code};

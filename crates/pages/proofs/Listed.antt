@@ -1,5 +1,5 @@
 -- The lines of a listing, one object at a time, and all of them.
-use Rattle.std.proofs.Common.{◌≡◌, ℕ, zero, suc, ◌+◌, ◌*◌, ◌≤◌, min, Bool, true, false, cond, leb, List, [], ◌∷◌, ◌++◌, map, length, take, drop, sym, refl, ap, ◌∙◌, ap₂, arith, length-take}
+use Rattle.std.proofs.Common.{◌≡◌, ℕ, zero, suc, ◌+◌, min, Bool, true, leb, List, [], ◌∷◌, ◌++◌, map, length, take, refl, ap, ◌∙◌, arith, length-take}
 use Rattle.std.proofs.lemmas.List.{take_all}
 use Rattle.std.proofs.lemmas.Bool.Decides.{nat_tests}
 use Rattle.oracle.proofs.Counts.{steps_counted}
@@ -7,9 +7,8 @@ use Rattle.oracle.specs.Counting.{total}
 use Rattle.oracle.specs.Laws.{Lawful}
 use Rattle.oracle.specs.Listing.{listing}
 use Rattle.oracle.specs.Outcomes.{counted}
-use Rattle.oracle.specs.Places.{objects, filled_slots}
 use Rattle.oracle.specs.Setup.{Code, Setup}
-use Rattle.lines.specs.Texts.{object_text, last_text}
+use Rattle.lines.specs.Texts.{last_text}
 use Rattle.pages.specs.Lines.{line_of, count_of, object_line, walk_steps, passed, lines_from, steps_of, all_lines, WholeSteps}
 
 -- last lines with equal parts

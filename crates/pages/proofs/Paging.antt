@@ -1,5 +1,5 @@
 -- The turns of a page.
-use Rattle.std.proofs.Common.{◌≡◌, ℕ, zero, suc, ◌+◌, ◌<◌, ◌≤◌, Bool, true, false, leb, ◌⊎◌, List, [], ◌∷◌, ◌++◌, length, take, drop, is_err, Ok, Err, vec_items, vec_len, vec_capacity, Result, Vec, sym, refl, ap, ◌∙◌, ap₂, inl, inr, arith, length-append, length-drop}
+use Rattle.std.proofs.Common.{◌≡◌, ℕ, zero, suc, ◌+◌, ◌<◌, ◌≤◌, Bool, true, false, leb, ◌⊎◌, List, [], ◌∷◌, ◌++◌, length, take, drop, is_err, Ok, Err, vec_items, vec_len, vec_capacity, Result, Vec, sym, ap, ◌∙◌, inl, inr, arith, length-append, length-drop}
 use Rattle.std.proofs.lemmas.Bool.Decides.{nat_tests}
 use Rattle.std.specs.List.{concat}
 use Rattle.std.specs.declared.alloc.AllocError.{AllocError}
@@ -7,7 +7,7 @@ use Rattle.std.specs.declared.alloc.Global.{Global}
 use Rattle.oracle.specs.Setup.{Setup}
 use Rattle.oracle.specs.declared.walking.Walking.{Ghosts}
 use Rattle.engine.specs.View.{View}
-use Rattle.pages.proofs.Turned.{turned_more, turned_none, turned_all}
+use Rattle.pages.proofs.Turned.{turned_all}
 use Rattle.pages.specs.Left.{left}
 use Rattle.pages.specs.Lines.{left_at}
 use Rattle.pages.specs.Turns.{turned, Filled}

@@ -1,6 +1,6 @@
 -- What is left of a listing at a place: the line of the object there and what is left at the next
 -- place, or the last line.
-use Rattle.std.proofs.Common.{◌≡◌, ℕ, zero, suc, ◌+◌, ◌-◌, ◌<◌, ◌≤◌, Bool, true, false, cond, not, ltb, leb, List, [], ◌∷◌, length, take, drop, is_some, Some, None, sym, refl, ap, ◌∙◌, ap₂, arith, ltb-false}
+use Rattle.std.proofs.Common.{◌≡◌, ℕ, zero, suc, ◌+◌, ◌-◌, ◌<◌, ◌≤◌, Bool, true, false, cond, not, ltb, leb, List, [], ◌∷◌, length, drop, is_some, None, sym, refl, ap, ◌∙◌, ap₂, arith, ltb-false}
 use Rattle.std.proofs.lemmas.List.{drop-drop}
 use Rattle.std.proofs.lemmas.Bool.Decides.{nat_tests}
 use Rattle.oracle.proofs.Complete.{complete}

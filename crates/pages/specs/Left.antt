@@ -1,7 +1,7 @@
 -- What is left of a listing that is under way.
 use Rattle.std.specs.Prelude.{ℕ, List}
 use Rattle.oracle.specs.Setup.{Code, Setup}
-use Rattle.engine.specs.View.{View, shown}
+use Rattle.engine.specs.View.{shown}
 use Rattle.pages.specs.Lines.{left_at}
 use Rattle.pages.specs.declared.pager.Pager.{Pager}
 

@@ -1,5 +1,5 @@
 -- Adjacency rows: digit b of row a is 1 where the corners a and b are joined by a side or a diagonal.
-use Rattle.std.specs.Prelude.{◌≡◌, ℕ, ◌+◌, ◌-◌, ◌/◌, ◌^◌, Bool, true, false, cond, List, set, ◌==◌, bit_and, bit_xor, nat_eq, slice_index, slice_set}
+use Rattle.std.specs.Prelude.{◌≡◌, ℕ, ◌+◌, ◌-◌, ◌/◌, ◌^◌, Bool, true, false, cond, List, ◌==◌, bit_and, bit_xor, nat_eq, slice_index, slice_set}
 use Rattle.std.specs.Int.Count.{count_trailing_zeros}
 use Rattle.digits.specs.Bits.{bit}
 use Rattle.oracle.specs.Setup.{Code}

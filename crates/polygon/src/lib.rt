@@ -1,4 +1,6 @@
 //! Triangulations of a convex polygon as an adjacency oracle.
+#![tactic(auto)]
+
 mod coding;
 mod making;
 mod rows;

@@ -1,4 +1,6 @@
 //! Protocols: acts as lines of text, read one by one and as a whole.
+#![tactic(auto)]
+
 mod bytes;
 mod calls;
 mod line;

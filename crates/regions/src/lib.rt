@@ -1,4 +1,6 @@
 //! Connected sets of regions behind the adjacency oracle.
+#![tactic(auto)]
+
 mod coding;
 mod flood;
 mod judging;

@@ -6,7 +6,7 @@ use Rattle.engine.proofs.RunCounts.{run_counted}
 use Rattle.engine.proofs.run.run.Goals as goal
 use Rattle.engine.specs.Acts.{plain_act}
 use Rattle.engine.specs.Runs.{order_of, entry_of, plain_run}
-use Rattle.engine.specs.View.{shown, begun}
+use Rattle.engine.specs.View.{shown}
 
 pub loop-call-init : goal.loop-call-init
 loop-call-init g c = record { sound_now = c.new-census.ensures.sound; setup_same = refl; in_step = refl }

@@ -4,7 +4,6 @@ use Rattle.pages.proofs.Onward.{pages_fall, pages_on, pages_end, room_onward, st
 use Rattle.pages.proofs.listing.list_all.Goals as goal
 use Rattle.pages.specs.Left.{left}
 use Rattle.pages.specs.Lines.{line_room, page_room}
-use Rattle.pages.specs.Turns.{turned}
 
 pub returns-in_err-page : goal.returns-in_err-page
 returns-in_err-page g c =

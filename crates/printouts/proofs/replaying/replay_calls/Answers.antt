@@ -12,9 +12,9 @@ returns g c =
     let s = W.setup c.args.oracle in
     let calls = c.args.calls in
     let after = c.run-census.new.calls in
-    let filled = with_items_is calls after (c.run-census.auto.calls ∙ c.as-mut-slice.ensures.len) in
+    let filled = with_items_is calls after (c.run-census.auto.calls ∙ c.as_mut_slice.ensures.len) in
     let same =
-    ap (map entry_of) (c.as-slice.ensures.value ∙ filled)
+    ap (map entry_of) (c.as_slice.ensures.value ∙ filled)
     ∙ ap (λ x. x.0) c.run-census.ensures.in_step
-    ∙ ap (λ os. (plain_run s (begun s) (map order_of os)).0) c.as-mut-slice.ensures.value in
-    IfOk-weaker c.answer-lines.result _ _ (λ v h. h ∙ ap entries_text same) c.answer-lines.ensures
+    ∙ ap (λ os. (plain_run s (begun s) (map order_of os)).0) c.as_mut_slice.ensures.value in
+    IfOk-weaker c.answer_lines.result _ _ (λ v h. h ∙ ap entries_text same) c.answer_lines.ensures

@@ -1,4 +1,4 @@
-use Rattle.std.proofs.Common.{◌≡◌, ℕ, ◌++◌, vec_items, vec_capacity, sym, refl, ap, ◌∙◌, ap₂, arith}
+use Rattle.std.proofs.Common.{◌≡◌, ℕ, ◌++◌, vec_items, vec_capacity, refl, ap, ◌∙◌, arith}
 use Rattle.engine.specs.View.{shown}
 use Rattle.pages.proofs.Passing.{is_due, passes}
 use Rattle.pages.proofs.pager.Pager.pass_object.Goals as goal
