@@ -1,4 +1,5 @@
 //! Caps over the tiny path of three objects, whose ranks are 0, 1 and 2.
+#![tactic(auto)]
 
 #[cfg(test)]
 mod tests {

@@ -1,4 +1,6 @@
 //! Reads a sheet from standard input and prints the objects that it asks for, or its fault.
+#![tactic(auto)]
+
 use anyhow::anyhow;
 use cap::Cap;
 use oracle::coded::Coded;

@@ -1,4 +1,5 @@
 //! Lists of acts over small maps and polygons, with the answers that the rules give.
+#![tactic(auto)]
 
 #[cfg(test)]
 mod tests;

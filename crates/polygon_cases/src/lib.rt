@@ -1,3 +1,5 @@
 //! Polygons of three, four and five corners, worked by hand.
+#![tactic(auto)]
+
 #[cfg(test)]
 mod tests;

@@ -122,6 +122,8 @@ fn single_lines(rt: HostRuntime) -> Result<(), Fail> {
     hex_line(&mut out, &[])?;
     hex_line(&mut out, &[0xee, 0x0f])?;
     last_line(&mut out, false, 4_294_967_295, 18_446_744_073_709_551_615)?;
-    assert!(rt; out.as_slice() == b"\nee0f\nopen 4294967295 steps 18446744073709551615\n");
+    assert!(rt;
+        out.as_slice() == b"\nee0f\nopen 4294967295 steps 18446744073709551615\n".as_slice()
+    );
     Ok(())
 }

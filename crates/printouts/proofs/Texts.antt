@@ -1,7 +1,7 @@
 -- Lines of calls, one after another.
-use Rattle.std.proofs.Common.{◌≡◌, ℕ, ◌+◌, ◌<◌, ◌≤◌, List, [], ◌∷◌, ◌++◌, map, length, get_or, take, sym, ap, ◌∙◌}
+use Rattle.std.proofs.Common.{◌≡◌, ℕ, ◌+◌, ◌<◌, ◌≤◌, List, [], ◌++◌, map, length, get_or, take, sym, ap, ◌∙◌}
 use Rattle.std.proofs.lemmas.List.{flat_map_more, map_push, take_more, take_all}
-use Rattle.engine.specs.Runs.{Entry, entry_of}
+use Rattle.engine.specs.Runs.{entry_of}
 use Rattle.engine.specs.declared.call.Call.{Call}
 use Rattle.printouts.specs.Answers.{entry_text}
 use Rattle.printouts.specs.Printed.{entries_text}

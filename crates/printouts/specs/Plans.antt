@@ -1,5 +1,5 @@
 -- The set-up that a plan asks for: that of its subject, under its cap.
-use Rattle.std.specs.Prelude.{ℕ, ◌≤◌}
+use Rattle.std.specs.Prelude.{◌≤◌}
 use Rattle.cap.specs.Capped.{capped}
 use Rattle.connected.specs.Sets.{regions_setup}
 use Rattle.oracle.specs.Setup.{Setup}

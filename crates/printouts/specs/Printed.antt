@@ -1,5 +1,5 @@
 -- What the programs print, from the bytes that they are given.
-use Rattle.std.specs.Prelude.{ℕ, List, [], ◌∷◌, ◌++◌, map, Ok, Err, codes, decimal, Result}
+use Rattle.std.specs.Prelude.{ℕ, List, [], ◌∷◌, ◌++◌, Ok, Err, codes, decimal, Result}
 use Rattle.std.specs.List as joins
 use Rattle.std.specs.List.{concat}
 use Rattle.engine.specs.Runs.{Order, Entry, plain_run}

@@ -1,4 +1,6 @@
 //! What the programs print, from the bytes of a sheet and of a protocol.
+#![tactic(auto)]
+
 mod answers;
 mod listing;
 mod plans;

@@ -1,4 +1,5 @@
 //! Small maps worked by hand. Sets are masks.
+#![tactic(auto)]
 
 #[cfg(test)]
 mod tests {

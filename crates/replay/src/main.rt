@@ -1,5 +1,7 @@
 //! Carries out the acts of standard input over the census that a sheet asks for, and prints what
 //! each answers.
+#![tactic(auto)]
+
 use anyhow::anyhow;
 use printouts::replay_sheet;
 use std::env;

@@ -1,4 +1,5 @@
 //! Tables of sheets with the verdict that the rules give each.
+#![tactic(auto)]
 
 #[cfg(test)]
 mod tests {

@@ -1,4 +1,6 @@
 //! Reads a sheet from standard input and says in one line what it asks for, or its fault.
+#![tactic(auto)]
+
 use std::io::{Read, Write};
 
 // One byte more than a sheet may have decides that it is too long.

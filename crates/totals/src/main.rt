@@ -1,4 +1,6 @@
 //! Takes the censuses of families whose totals are known by formulas, and prints a line for each.
+#![tactic(auto)]
+
 mod counting;
 mod families;
 

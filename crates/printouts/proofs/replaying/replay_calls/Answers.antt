@@ -1,4 +1,4 @@
-use Rattle.std.proofs.Common.{map, vec_items, ap, ◌∙◌}
+use Rattle.std.proofs.Common.{map, ap, ◌∙◌}
 use Rattle.std.proofs.lemmas.List.{with_items_is}
 use Rattle.std.proofs.lemmas.Result.{IfOk-weaker}
 use Rattle.engine.specs.Runs.{order_of, entry_of, plain_run}
