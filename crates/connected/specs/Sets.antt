@@ -1,6 +1,6 @@
 -- The connected sets of n regions as a family of masks: objects, slots, home and rank in words of members.
 use Rattle.std.specs.Prelude.{◌≡◌, ℕ, ◌^◌, ◌<◌, Bool, cond, ◌&&◌, List, length, Some, None, Option, ◌==◌, bit_xor, nat_lt}
-use Rattle.std.specs.List.{AllByRecursion as All}
+use Rattle.std.specs.List.{AllByRecursion}
 use Rattle.digits.specs.Bits.{bit, count}
 use Rattle.oracle.specs.Setup.{Setup}
 use Rattle.masks.specs.Codes.{number}
@@ -54,4 +54,4 @@ regions_setup n t = coded (region_sets n t)
 
 -- The textbook, of codes: a row of 8 bytes whose number is such a set.
 abbrev pub RegionCode : ℕ → List ℕ → List ℕ → Type 0
-RegionCode n t row = (length row ≡ 8) × All (λ b. b < 256) row × RegionSet n t (number row)
+RegionCode n t row = (length row ≡ 8) × AllByRecursion (λ b. b < 256) row × RegionSet n t (number row)

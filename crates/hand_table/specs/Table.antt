@@ -1,6 +1,6 @@
 -- Small censuses worked out by hand, and the statement that the definitions of the contracts give them.
 use Rattle.std.specs.Prelude.{◌≡◌, ℕ, ◌/◌, ◌%◌, List, [], ◌∷◌, map, drop, replicate, slice_index, slice_set}
-use Rattle.std.specs.List.{AllByRecursion as All}
+use Rattle.std.specs.List.{AllByRecursion}
 use Rattle.digits.specs.Bits.{with_digit}
 use Rattle.maps.specs.Touch.{bare}
 use Rattle.sheets.specs.Written.{table_after}
@@ -83,4 +83,4 @@ pub record Holds (r : Row) : Type 0 where
 -- that of 3, saved under job 7 give the check 87 in the last four bytes of the block.
 abbrev pub HandTable : Type 0
 HandTable =
-    All Holds table × (number 1 3 ≡ 4) × (number 22 23 ≡ 275) × (drop 508 (block 7 in_a_row (code 3)) ≡ 87 ∷ 0 ∷ 0 ∷ 0 ∷ [])
+    AllByRecursion Holds table × (number 1 3 ≡ 4) × (number 22 23 ≡ 275) × (drop 508 (block 7 in_a_row (code 3)) ≡ 87 ∷ 0 ∷ 0 ∷ 0 ∷ [])

@@ -1,6 +1,6 @@
 -- Codes and numbers are each other's inverse.
 use Rattle.std.proofs.Common.{◌≡◌, ℕ, zero, suc, ◌+◌, ◌*◌, ◌/◌, ◌%◌, ◌^◌, ◌<◌, ◌≤◌, Bool, true, false, cond, eqb, ltb, List, [], ◌∷◌, ◌++◌, length, get_or, drop, Some, None, Ok, Err, Result, sym, refl, ap, ◌∙◌, subst, ap₂, pow-suc, arith}
-use Rattle.std.specs.List.{AllByRecursion as All}
+use Rattle.std.specs.List.{AllByRecursion}
 use Rattle.std.proofs.lemmas.List.{at_drop_more, at_drop_all}
 use Rattle.std.proofs.lemmas.Bool.{and_parts, and_from, ltb-true, lt-ltb, le-ltb, eqb-true, eq-eqb, cond-true}
 use Rattle.refusals.specs.declared.Refusal.{Refusal}
@@ -35,14 +35,14 @@ bytes_small zero s = refl
 bytes_small (suc k) s =
     and_from (ltb (s % 256) 256) (all_bytes (bytes k (s / 256))) (lt-ltb (s % 256) 256 (omega arith)) (bytes_small k (s / 256))
 
-pub each_byte : (row : List ℕ) → all_bytes row ≡ true → All (λ b. b < 256) row
+pub each_byte : (row : List ℕ) → all_bytes row ≡ true → AllByRecursion (λ b. b < 256) row
 unfolding all_bytes
 each_byte [] h = tt
 each_byte (b ∷ bs) h =
     let p = and_parts (ltb b 256) (all_bytes bs) h in
     (ltb-true b 256 p.0, each_byte bs p.1)
 
-pub bytes_each : (row : List ℕ) → All (λ b. b < 256) row → all_bytes row ≡ true
+pub bytes_each : (row : List ℕ) → AllByRecursion (λ b. b < 256) row → all_bytes row ≡ true
 unfolding all_bytes
 bytes_each [] h = refl
 bytes_each (b ∷ bs) h = and_from (ltb b 256) (all_bytes bs) (lt-ltb b 256 h.0) (bytes_each bs h.1)
@@ -58,10 +58,10 @@ code_is s = and_from (eqb (length (code s)) 8) (all_bytes (code s)) (eq-eqb (len
 pub code_length : (row : List ℕ) → is_code row ≡ true → length row ≡ 8
 code_length row h = eqb-true (length row) 8 (and_parts (eqb (length row) 8) (all_bytes row) h).0
 
-pub code_bytes : (row : List ℕ) → is_code row ≡ true → All (λ b. b < 256) row
+pub code_bytes : (row : List ℕ) → is_code row ≡ true → AllByRecursion (λ b. b < 256) row
 code_bytes row h = each_byte row (and_parts (eqb (length row) 8) (all_bytes row) h).1
 
-pub code_from : (row : List ℕ) → length row ≡ 8 → All (λ b. b < 256) row → is_code row ≡ true
+pub code_from : (row : List ℕ) → length row ≡ 8 → AllByRecursion (λ b. b < 256) row → is_code row ≡ true
 code_from row l h = and_from (eqb (length row) 8) (all_bytes row) (eq-eqb (length row) 8 l) (bytes_each row h)
 
 pub code_number : (row : List ℕ) → is_code row ≡ true → code (number row) ≡ row

@@ -2,7 +2,7 @@
 use Rattle.std.proofs.Common.{◌≡◌, ℕ, ◌+◌, Bool, true, false, cond, ◌⊎◌, List, [], ◌∷◌, ◌++◌, length, refl, ap, inl, inr, arith}
 use Rattle.std.proofs.lemmas.Slice.Eq.{bytes_eq-Decides}
 use Rattle.std.proofs.lemmas.Bool.{both_ways}
-use Rattle.std.specs.List.{AllByRecursion as All}
+use Rattle.std.specs.List.{AllByRecursion}
 use Rattle.std.specs.Str.{bytes_eq}
 use Rattle.oracle.specs.Counting.{same, times, total}
 use Rattle.oracle.specs.Setup.{Code}
@@ -51,7 +51,7 @@ total_ones [] = refl
 total_ones (x ∷ xs) = let h = total_ones xs in omega arith
 
 -- what is not among those of a list does not stand in it
-pub times_none : (P : Code → Type 0) (x : Code) (xs : List Code) → All P xs → (P x → ⊥) → times x xs ≡ 0
+pub times_none : (P : Code → Type 0) (x : Code) (xs : List Code) → AllByRecursion P xs → (P x → ⊥) → times x xs ≡ 0
 unfolding total
 times_none P x [] a n = refl
 times_none P x (y ∷ ys) a n = go (same_cases x y) (times_none P x ys a.1 n)

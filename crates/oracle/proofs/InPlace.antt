@@ -1,6 +1,6 @@
 -- Places in any list of codes.
 use Rattle.std.proofs.Common.{◌≡◌, ℕ, zero, suc, ◌+◌, ◌<◌, ◌≤◌, cond, List, [], ◌∷◌, ◌++◌, length, sym, refl, ap, ◌∙◌, subst, inl, inr, arith}
-use Rattle.std.specs.List.{AllByRecursion as All}
+use Rattle.std.specs.List.{AllByRecursion}
 use Rattle.oracle.proofs.Codes.{SameCases, same_cases, same_self, bytes_same, bytes_apart}
 use Rattle.oracle.specs.Counting.{same, times, total}
 use Rattle.oracle.specs.Places.{first_of, at_place, place_in}
@@ -59,7 +59,7 @@ not_past : (x : Code) (t : Spot) → t ≡ past → t ≡ on x → ⊥
 not_past x t e f = let z : ◌≡◌ {A = ℕ} 0 1 = cc in omega arith
 
 -- what stands at a place has what all of the list have
-pub at_all : (P : Code → Type 0) (x : Code) (xs : List Code) (p : ℕ) → All P xs → at_place xs p ≡ on x → P x
+pub at_all : (P : Code → Type 0) (x : Code) (xs : List Code) (p : ℕ) → AllByRecursion P xs → at_place xs p ≡ on x → P x
 unfolding at_place first_of
 at_all P x [] p a e = absurd (not_past x (at_place [] p) (at_none p) e)
 at_all P x (y ∷ ys) zero a e = absurd (not_past x past refl e)

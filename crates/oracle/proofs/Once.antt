@@ -2,7 +2,7 @@
 -- and once more if it is v.
 use Rattle.std.proofs.Common.{◌≡◌, ℕ, zero, suc, ◌+◌, ◌<◌, ◌≤◌, ◌⊎◌, List, [], ◌∷◌, sym, refl, ap, ◌∙◌, inl, inr, arith}
 use Rattle.std.proofs.lemmas.Bool.{cases_eq}
-use Rattle.std.specs.List.{flat_map, AllByRecursion as All}
+use Rattle.std.specs.List.{flat_map, AllByRecursion}
 use Rattle.oracle.proofs.Codes.{SameCases, same_cases, same_self, same_apart, total_append}
 use Rattle.oracle.proofs.Family.{Parent, child_homeward, seen_child, homeward_is, homeward_none, downward, upward}
 use Rattle.oracle.proofs.Unrolled.{OfChildren, children_all, unrolled}
@@ -78,7 +78,7 @@ module _ (s : Setup) (law : Lawful s) where
       let z : ◌≡◌ {A = ℕ} 0 1 = cc in
       absurd (omega arith))
 
-  times-joined : (x u : Code) (ws : List Code) → All (λ w. times x (list_of s w) ≡ same x w + times u (list_of s w)) ws → times x (flat_map (list_of s) ws) ≡ times x ws + times u (flat_map (list_of s) ws)
+  times-joined : (x u : Code) (ws : List Code) → AllByRecursion (λ w. times x (list_of s w) ≡ same x w + times u (list_of s w)) ws → times x (flat_map (list_of s) ws) ≡ times x ws + times u (flat_map (list_of s) ws)
   unfolding total
   times-joined x u [] a = refl
   times-joined x u (w ∷ ws) a =
@@ -99,7 +99,7 @@ module _ (s : Setup) (law : Lawful s) where
           let b = child-times x k v o in
           rw (unrolled s law v o) (omega arith)
 
-  root-joined : (ws : List Code) → All (λ w. times s.root (list_of s w) ≡ same s.root w) ws → times s.root (flat_map (list_of s) ws) ≡ times s.root ws
+  root-joined : (ws : List Code) → AllByRecursion (λ w. times s.root (list_of s w) ≡ same s.root w) ws → times s.root (flat_map (list_of s) ws) ≡ times s.root ws
   unfolding total
   root-joined [] a = refl
   root-joined (w ∷ ws) a =

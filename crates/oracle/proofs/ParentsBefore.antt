@@ -1,7 +1,7 @@
 -- A parent stands before its children.
 use Rattle.std.proofs.Common.{◌≡◌, ℕ, ◌<◌, ◌≤◌, ◌⊎◌, List, [], ◌∷◌, ◌++◌, refl, ap, ◌∙◌, inl, inr, arith}
 use Rattle.std.proofs.lemmas.Bool.{cases_eq}
-use Rattle.std.specs.List.{flat_map, AllByRecursion as All}
+use Rattle.std.specs.List.{flat_map, AllByRecursion}
 use Rattle.oracle.proofs.Codes.{SameCases, same_cases, same_apart, total_append}
 use Rattle.oracle.proofs.Family.{Parent, child_homeward, homeward_is, downward}
 use Rattle.oracle.proofs.InPlace.{place_here, place_later, place_positive, place_in_front, place_behind}
@@ -18,7 +18,7 @@ use Rattle.oracle.specs.Setup.{Code, Setup, filled}
 abbrev Before : Code → Code → List Code → Type 0
 Before u x xs = (times x xs ≡ times u xs) × (1 ≤ times x xs → place_in u xs < place_in x xs)
 
-before_joined : (L : Code → List Code) (u x : Code) (ws : List Code) → All (λ w. Before u x (L w)) ws → Before u x (flat_map L ws)
+before_joined : (L : Code → List Code) (u x : Code) (ws : List Code) → AllByRecursion (λ w. Before u x (L w)) ws → Before u x (flat_map L ws)
 unfolding total
 before_joined L u x [] a = (refl, λ h. absurd (omega arith))
 before_joined L u x (w ∷ ws) a = go (cases_eq (times x (L w)) 0) (before_joined L u x ws a.1)

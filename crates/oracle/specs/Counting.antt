@@ -1,6 +1,6 @@
 -- Counting in lists of codes.
 use Rattle.std.specs.Prelude.{◌≡◌, ℕ, zero, suc, ◌+◌, cond, List, [], ◌∷◌}
-use Rattle.std.specs.List.{AllByRecursion as All}
+use Rattle.std.specs.List.{AllByRecursion}
 use Rattle.std.specs.Str.{bytes_eq}
 use Rattle.oracle.specs.Setup.{Code, Setup, Slot, vacant, filled}
 use Rattle.oracle.specs.Laws.{Object}
@@ -21,7 +21,7 @@ times x ys = total (same x) ys
 -- A list that holds every object exactly once and nothing else.
 pub record Enumerates (s : Setup) (xs : List Code) : Type 0 where
   pub each_once : (v : Code) → Object s v → times v xs ≡ 1
-  pub nothing_else : All (Object s) xs
+  pub nothing_else : AllByRecursion (Object s) xs
 
 unfoldable pub filled_count : Slot → ℕ
 filled_count vacant = 0

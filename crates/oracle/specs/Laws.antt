@@ -1,6 +1,6 @@
 -- The laws of a set-up.
 use Rattle.std.specs.Prelude.{◌≡◌, ℕ, ◌<◌, ◌≤◌, true, length, Some, None, ◌≢◌}
-use Rattle.std.specs.List.{AllByRecursion as All}
+use Rattle.std.specs.List.{AllByRecursion}
 use Rattle.oracle.specs.Setup.{Code, Setup, filled}
 
 abbrev pub Object : Setup → Code → Type 0
@@ -14,7 +14,7 @@ pub record Lawful (s : Setup) : Type 0 where
   pub size_limit : s.size ≤ 480
   pub height_limit : s.height ≤ 1000000
   pub code_size : (v : Code) → Object s v → length v ≡ s.size
-  pub code_bytes : (v : Code) → Object s v → All (λ b. b < 256) v
+  pub code_bytes : (v : Code) → Object s v → AllByRecursion (λ b. b < 256) v
   pub rank_limit : (v : Code) → Object s v → s.rank v ≤ s.height
   -- law 1: of a filled slot
   pub neighbour_object : (v w : Code) (j k : ℕ) → Object s v → j < s.width → s.slot v j ≡ filled w k → Object s w

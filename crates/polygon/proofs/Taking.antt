@@ -1,6 +1,6 @@
 -- A row of bytes judged over its rows, and taken.
 use Rattle.std.proofs.Common.{◌≡◌, ℕ, suc, ◌<◌, ◌≤◌, Bool, true, false, eqb, List, [], ◌∷◌, length, get_or, Ok, Err, sym, refl, ap, ◌∙◌}
-use Rattle.std.specs.List.{AllByRecursion as All}
+use Rattle.std.specs.List.{AllByRecursion}
 use Rattle.oracle.specs.Calls.{taken}
 use Rattle.oracle.specs.Setup.{Code}
 use Rattle.refusals.specs.declared.Refusal.TheVariants.{NotACode}
@@ -53,7 +53,7 @@ no_row n row h = go (is_object n row) refl
     go true o = absurd (h ((object_decides n row).0 o).0.size)
     go false o = o
 
-all_bytes_from : (row : Code) → ((i : ℕ) → get_or row i 0 < 256) → All (λ b. b < 256) row
+all_bytes_from : (row : Code) → ((i : ℕ) → get_or row i 0 < 256) → AllByRecursion (λ b. b < 256) row
 all_bytes_from [] h = tt
 all_bytes_from (b ∷ bs) h = (h 0, all_bytes_from bs (λ i. h (suc i)))
 

@@ -1,7 +1,7 @@
 -- A number on a line is the decimal of its value: what is read is what would be written.
 use Rattle.std.proofs.Common.{◌≡◌, ℕ, ◌+◌, ◌-◌, ◌*◌, ◌^◌, ◌<◌, ◌≤◌, Bool, true, false, not, ◌&&◌, ◌||◌, eqb, leb, ◌≢◌, ◌⊎◌, List, [], ◌∷◌, length, get_or, Some, None, decimal, Option, sym, refl, ap, ◌∙◌, inl, inr, arith}
 use Rattle.std.specs.Char.{is_ascii_digit}
-use Rattle.std.specs.List.{AllByRecursion as All}
+use Rattle.std.specs.List.{AllByRecursion}
 use Rattle.std.specs.Str.{all_ascii_digits}
 use Rattle.std.proofs.lemmas.Fmt.{digits_decimal, digits_value-decimal, length-decimal-le, decimal_nonempty, decimal_digit, first_decimal, decimal-digits_value}
 use Rattle.std.proofs.lemmas.Str.Parse.{IsNumeralModel, FoldsDigits, numerals_by_fold, tells_all_ascii_digits, digits_value_short}
@@ -133,7 +133,7 @@ is_number m v h small =
     ∙ is_most m v h
 
 -- no byte that is no digit stands in a number
-digits_are : (c : ℕ) (ds : List ℕ) → is_ascii_digit c ≡ false → all_ascii_digits ds ≡ true → All (λ b. b ≢ c) ds
+digits_are : (c : ℕ) (ds : List ℕ) → is_ascii_digit c ≡ false → all_ascii_digits ds ≡ true → AllByRecursion (λ b. b ≢ c) ds
 digits_are c [] n h = tt
 digits_are c (d ∷ ds) n h =
     let p = and_parts (is_ascii_digit d) (all_ascii_digits ds) h in (
@@ -142,5 +142,5 @@ digits_are c (d ∷ ds) n h =
       digits_are c ds n p.1,
     )
 
-pub decimal_without : (c v : ℕ) → is_ascii_digit c ≡ false → v < 10 ^ 10 → All (λ b. b ≢ c) (decimal v)
+pub decimal_without : (c v : ℕ) → is_ascii_digit c ≡ false → v < 10 ^ 10 → AllByRecursion (λ b. b ≢ c) (decimal v)
 decimal_without c v n h = digits_are c (decimal v) n (digits_in v h)

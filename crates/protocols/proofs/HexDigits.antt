@@ -1,6 +1,6 @@
 -- Digits are what is written of the bytes that they stand for.
 use Rattle.std.proofs.Common.{◌≡◌, ℕ, ◌+◌, ◌-◌, ◌*◌, ◌/◌, ◌%◌, ◌<◌, ◌≤◌, Bool, true, false, ◌&&◌, eqb, leb, List, [], ◌∷◌, ◌++◌, length, get_or, take, drop, Some, None, codes, Option, sym, refl, ap, ◌∙◌, subst, arith}
-use Rattle.std.specs.List.{AllByRecursion as All}
+use Rattle.std.specs.List.{AllByRecursion}
 use Rattle.std.specs.Str.{bytes_eq}
 use Rattle.std.proofs.lemmas.Slice.Eq.{bytes_eq-Decides}
 use Rattle.std.proofs.lemmas.List.{at_drop_more, at_drop_all, take_rest, append_assoc, append-nil}
@@ -39,7 +39,7 @@ whole b = omega arith
 
 -- digits in pairs, written of what they stand for
 pairs_back : (n : ℕ) (ds : List ℕ) → length ds ≡ 2 * n → all_hex ds ≡ true
-    → (hexed (bytes_of ds) ≡ ds) × All (λ b. b < 256) (bytes_of ds)
+    → (hexed (bytes_of ds) ≡ ds) × AllByRecursion (λ b. b < 256) (bytes_of ds)
 unfolding hexed bytes_of all_hex
 pairs_back n [] e h = (refl, tt)
 pairs_back n (a ∷ []) e h = absurd (omega arith)
@@ -58,7 +58,7 @@ pairs_back n (a ∷ (b ∷ cs)) e h =
     )
 
 -- written bytes, read from their digits
-bytes_back : (bs : List ℕ) → All (λ b. b < 256) bs → bytes_of (hexed bs) ≡ bs
+bytes_back : (bs : List ℕ) → AllByRecursion (λ b. b < 256) bs → bytes_of (hexed bs) ≡ bs
 unfolding hexed bytes_of
 bytes_back [] h = refl
 bytes_back (b ∷ bs) h =
@@ -70,7 +70,7 @@ bytes_back (b ∷ bs) h =
     ∙ ap (λ x. x ∷ bytes_of (hexed bs)) (whole b)
     ∙ ap (λ x. b ∷ x) (bytes_back bs h.1)
 
-digits_hex : (bs : List ℕ) → All (λ b. b < 256) bs → all_hex (hexed bs) ≡ true
+digits_hex : (bs : List ℕ) → AllByRecursion (λ b. b < 256) bs → all_hex (hexed bs) ≡ true
 unfolding hexed all_hex
 digits_hex [] h = refl
 digits_hex (b ∷ bs) h =
@@ -85,7 +85,7 @@ unfolding hexed
 length_hexed [] = refl
 length_hexed (b ∷ bs) = let ih = length_hexed bs in omega arith
 
-pub hexed_above : (bs : List ℕ) → All (λ b. 48 ≤ b) (hexed bs)
+pub hexed_above : (bs : List ℕ) → AllByRecursion (λ b. 48 ≤ b) (hexed bs)
 unfolding hexed
 hexed_above [] = tt
 hexed_above (b ∷ bs) = (digit_above (b / 16), (digit_above (b % 16), hexed_above bs))
@@ -103,11 +103,11 @@ block_text_some [] h = absurd (omega arith)
 block_text_some (b ∷ bs) h = refl
 
 -- what is read as bytes is those bytes written
-pub bytes_are : (ds bs : List ℕ) → bytes_at ds ≡ Some bs → All (λ b. b < 256) bs × (ds ≡ block_text bs)
+pub bytes_are : (ds bs : List ℕ) → bytes_at ds ≡ Some bs → AllByRecursion (λ b. b < 256) bs × (ds ≡ block_text bs)
 unfolding bytes_at by_pairs by_hyphen
 bytes_are ds bs e = go (bytes_eq ds (codes "-")) refl
   where
-    pairs : in_pairs ds ≡ true → All (λ b. b < 256) (bytes_of ds) × (ds ≡ block_text (bytes_of ds))
+    pairs : in_pairs ds ≡ true → AllByRecursion (λ b. b < 256) (bytes_of ds) × (ds ≡ block_text (bytes_of ds))
     pairs g =
         let p = and_parts (leb 1 (length ds) && eqb (length ds % 2) 0) (all_hex ds) g in
         let q = and_parts (leb 1 (length ds)) (eqb (length ds % 2) 0) p.0 in
@@ -117,18 +117,18 @@ bytes_are ds bs e = go (bytes_eq ds (codes "-")) refl
         let long = ap length back.0 in
         (back.1, sym back.0 ∙ block_text_some (bytes_of ds) (omega arith))
 
-    by : (t : Bool) → in_pairs ds ≡ t → bytes_eq ds (codes "-") ≡ false → All (λ b. b < 256) bs × (ds ≡ block_text bs)
+    by : (t : Bool) → in_pairs ds ≡ t → bytes_eq ds (codes "-") ≡ false → AllByRecursion (λ b. b < 256) bs × (ds ≡ block_text bs)
     by true g f =
         let got : Some (bytes_of ds) ≡ Some bs = sym (ap (by_pairs ds) g) ∙ sym (ap (by_hyphen ds) f) ∙ e in
         let same : bytes_of ds ≡ bs = cc in
-        subst (λ (xs : List ℕ). All (λ b. b < 256) xs × (ds ≡ block_text xs)) same (pairs g)
+        subst (λ (xs : List ℕ). AllByRecursion (λ b. b < 256) xs × (ds ≡ block_text xs)) same (pairs g)
     by false g f = clash bs (sym (ap (by_pairs ds) g) ∙ sym (ap (by_hyphen ds) f) ∙ e)
 
-    go : (t : Bool) → bytes_eq ds (codes "-") ≡ t → All (λ b. b < 256) bs × (ds ≡ block_text bs)
+    go : (t : Bool) → bytes_eq ds (codes "-") ≡ t → AllByRecursion (λ b. b < 256) bs × (ds ≡ block_text bs)
     go true f =
         let got : Some [] ≡ Some bs = sym (ap (by_hyphen ds) f) ∙ e in
         let same : [] ≡ bs = cc in
-        subst (λ (xs : List ℕ). All (λ b. b < 256) xs × (ds ≡ block_text xs)) same (tt, (bytes_eq-Decides ds (codes "-")).0 f)
+        subst (λ (xs : List ℕ). AllByRecursion (λ b. b < 256) xs × (ds ≡ block_text xs)) same (tt, (bytes_eq-Decides ds (codes "-")).0 f)
     go false f = by (in_pairs ds) refl f
 
 no_hyphen : (b : ℕ) (bs : List ℕ) → bytes_eq (hexed (b ∷ bs)) (codes "-") ≡ false
@@ -136,7 +136,7 @@ unfolding hexed
 no_hyphen b bs = and_right (eqb (hex_digit (b / 16)) 45) false refl
 
 -- and written bytes are read as themselves
-pub are_bytes : (bs : List ℕ) → All (λ b. b < 256) bs → bytes_at (block_text bs) ≡ Some bs
+pub are_bytes : (bs : List ℕ) → AllByRecursion (λ b. b < 256) bs → bytes_at (block_text bs) ≡ Some bs
 unfolding bytes_at by_pairs by_hyphen
 are_bytes [] h = refl
 are_bytes (b ∷ bs) h =

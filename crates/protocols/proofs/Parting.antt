@@ -1,6 +1,6 @@
 -- Bytes that are parted at the first of a kind.
 use Rattle.std.proofs.Common.{◌≡◌, ℕ, suc, ◌+◌, ◌-◌, ◌<◌, ◌≤◌, Bool, true, false, cond, not, eqb, ltb, ◌≢◌, List, [], ◌∷◌, ◌++◌, length, take, drop, Some, None, Option, sym, refl, ap, ◌∙◌, subst, arith}
-use Rattle.std.specs.List.{prefix_len, AllByRecursion as All}
+use Rattle.std.specs.List.{prefix_len, AllByRecursion}
 use Rattle.std.proofs.lemmas.List.{take_rest}
 use Rattle.std.proofs.lemmas.Bool.{ne_eqb, eqb-true, eqb-false, eq-eqb, ltb-true, ltb-false, cond-true, cond-false}
 use Rattle.protocols.specs.Reading.{behind, parted, place_of}
@@ -41,33 +41,33 @@ parted_is d (b ∷ bs) a r e = go (eqb b d) refl (parted d bs) refl (parted_is d
         ap (λ ys. b ∷ ys) (ih p.0 p.1 g) ∙ ap (λ ys. b ∷ (p.0 ++ (d ∷ ys))) s.1 ∙ ap (λ xs. xs ++ (d ∷ r)) s.0
 
 -- what has no such byte is cut off whole
-pub is_parted : (d : ℕ) (a r : List ℕ) → All (λ b. b ≢ d) a → parted d (a ++ (d ∷ r)) ≡ Some (a, r)
+pub is_parted : (d : ℕ) (a r : List ℕ) → AllByRecursion (λ b. b ≢ d) a → parted d (a ++ (d ∷ r)) ≡ Some (a, r)
 is_parted d [] r h = parted_here d d r (eq-eqb d d refl)
 is_parted d (b ∷ a) r h =
     parted_on d b (a ++ (d ∷ r)) (ne_eqb b d h.0) ∙ ap (behind b) (is_parted d a r h.1)
 
 -- what stands before the byte has none, and neither has what is not parted
-pub parted_front : (d : ℕ) (l a r : List ℕ) → parted d l ≡ Some (a, r) → All (λ b. b ≢ d) a
+pub parted_front : (d : ℕ) (l a r : List ℕ) → parted d l ≡ Some (a, r) → AllByRecursion (λ b. b ≢ d) a
 unfolding parted
 parted_front d [] a r e = clash (a, r) e
 parted_front d (b ∷ bs) a r e = go (eqb b d) refl (parted d bs) refl (parted_front d bs)
   where
     go : (t : Bool) → eqb b d ≡ t → (o : Parts) → parted d bs ≡ o
-        → ((x y : List ℕ) → parted d bs ≡ Some (x, y) → All (λ c. c ≢ d) x) → All (λ c. c ≢ d) a
+        → ((x y : List ℕ) → parted d bs ≡ Some (x, y) → AllByRecursion (λ c. c ≢ d) x) → AllByRecursion (λ c. c ≢ d) a
     go true f o g ih =
         let s = same_parts ([], bs) (a, r) (sym (parted_here d b bs f) ∙ e) in
-        subst (λ (xs : List ℕ). All (λ c. c ≢ d) xs) s.0 tt
+        subst (λ (xs : List ℕ). AllByRecursion (λ c. c ≢ d) xs) s.0 tt
     go false f None g ih = clash (a, r) (sym (parted_on d b bs f ∙ ap (behind b) g) ∙ e)
     go false f (Some p) g ih =
         let s = same_parts (b ∷ p.0, p.1) (a, r) (sym (parted_on d b bs f ∙ ap (behind b) g) ∙ e) in
-        subst (λ (xs : List ℕ). All (λ c. c ≢ d) xs) s.0 (eqb-false b d f, ih p.0 p.1 g)
+        subst (λ (xs : List ℕ). AllByRecursion (λ c. c ≢ d) xs) s.0 (eqb-false b d f, ih p.0 p.1 g)
 
-pub parted_none : (d : ℕ) (l : List ℕ) → parted d l ≡ None → All (λ b. b ≢ d) l
+pub parted_none : (d : ℕ) (l : List ℕ) → parted d l ≡ None → AllByRecursion (λ b. b ≢ d) l
 parted_none d [] e = tt
 parted_none d (b ∷ bs) e = go (eqb b d) refl (parted d bs) refl (parted_none d bs)
   where
-    go : (t : Bool) → eqb b d ≡ t → (o : Parts) → parted d bs ≡ o → (parted d bs ≡ None → All (λ c. c ≢ d) bs)
-        → All (λ c. c ≢ d) (b ∷ bs)
+    go : (t : Bool) → eqb b d ≡ t → (o : Parts) → parted d bs ≡ o → (parted d bs ≡ None → AllByRecursion (λ c. c ≢ d) bs)
+        → AllByRecursion (λ c. c ≢ d) (b ∷ bs)
     go true f o g ih = clash ([], bs) (sym e ∙ parted_here d b bs f)
     go false f None g ih = (eqb-false b d f, ih g)
     go false f (Some p) g ih = clash (b ∷ p.0, p.1) (sym e ∙ (parted_on d b bs f ∙ ap (behind b) g))

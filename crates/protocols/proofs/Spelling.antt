@@ -1,7 +1,7 @@
 -- A line is read as a request exactly if it is that request written out.
 use Rattle.std.proofs.Common.{◌≡◌, ℕ, ◌≤◌, Bool, true, false, cond, not, ◌&&◌, eqb, ◌≢◌, ◌⊎◌, List, [], ◌∷◌, ◌++◌, Some, None, codes, decimal, Option, sym, refl, ap, ◌∙◌, subst, inl, inr, arith}
 use Rattle.std.specs.Option.{option_map}
-use Rattle.std.specs.List.{AllByRecursion as All}
+use Rattle.std.specs.List.{AllByRecursion}
 use Rattle.std.specs.Str.{bytes_eq}
 use Rattle.std.proofs.ByRecursion.{All-append, All-weaker, Decides-by_and}
 use Rattle.std.proofs.lemmas.Slice.Eq.{bytes_eq-Decides}
@@ -162,12 +162,12 @@ spells l q = (λ e. request_is l q e, λ h. ap request_at h.1 ∙ is_request q h
 
 -- ---- no line break stands in a line
 
-hex_without : (bs : List ℕ) → All (λ b. b ≢ 10) (block_text bs)
+hex_without : (bs : List ℕ) → AllByRecursion (λ b. b ≢ 10) (block_text bs)
 hex_without [] = (λ e. omega arith, tt)
 hex_without (b ∷ bs) = All-weaker (λ c. 48 ≤ c) (λ c. c ≢ 10) (λ c h e. omega arith) (hexed (b ∷ bs)) (hexed_above (b ∷ bs))
 
-two_without : (w : List ℕ) (job : ℕ) (b : List ℕ) → All (λ c. c ≢ 10) w → job ≤ most_job → All (λ c. c ≢ 10) b
-    → All (λ c. c ≢ 10) (w ++ (decimal job ++ (32 ∷ b)))
+two_without : (w : List ℕ) (job : ℕ) (b : List ℕ) → AllByRecursion (λ c. c ≢ 10) w → job ≤ most_job → AllByRecursion (λ c. c ≢ 10) b
+    → AllByRecursion (λ c. c ≢ 10) (w ++ (decimal job ++ (32 ∷ b)))
 two_without w job b hw h hb =
     All-append (λ c. c ≢ 10) w (decimal job ++ (32 ∷ b)) hw
     (All-append (λ c. c ≢ 10) (decimal job) (32 ∷ b) (decimal_without 10 job refl (omega arith)) (λ e. omega arith, hb))
@@ -177,11 +177,11 @@ all_other [] = true
 all_other (c ∷ cs) = not (eqb c 10) && all_other cs
 
 -- a word has none
-plain_without : (w : List ℕ) → all_other w ≡ true → All (λ c. c ≢ 10) w
+plain_without : (w : List ℕ) → all_other w ≡ true → AllByRecursion (λ c. c ≢ 10) w
 plain_without w e = (Decides-by_and (λ c. not (eqb c 10)) (λ c. c ≢ 10) all_other
     (λ c. Decides-not (eqb c 10) (Decides-eqb c 10)) refl (λ _ _. refl) w).0 e
 
-pub text_without : (q : Request) → Good q → All (λ c. c ≢ 10) (text_of q)
+pub text_without : (q : Request) → Good q → AllByRecursion (λ c. c ≢ 10) (text_of q)
 text_without next h = plain_without (codes "next") refl
 text_without restart h = plain_without (codes "restart") refl
 text_without tally h = plain_without (codes "tally") refl

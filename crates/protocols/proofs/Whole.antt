@@ -1,6 +1,6 @@
 -- Bytes are read as requests exactly if they are the protocol of those; the first unreadable line.
 use Rattle.std.proofs.Common.{◌≡◌, ℕ, suc, ◌+◌, ◌-◌, ◌<◌, Bool, true, false, cond, eqb, ◌⊎◌, List, [], ◌∷◌, ◌++◌, map, length, get_or, is_some, Some, None, Ok, Err, Option, Result, sym, refl, ap, ◌∙◌, subst, inl, inr, arith}
-use Rattle.std.specs.List.{flat_map, prefix_len, AllByRecursion as All}
+use Rattle.std.specs.List.{flat_map, prefix_len, AllByRecursion}
 use Rattle.std.proofs.lemmas.List.{append_assoc, append-nil}
 use Rattle.std.proofs.lemmas.Bool.{eqb-true}
 use Rattle.engine.specs.Runs.{Order}
@@ -58,7 +58,7 @@ together_texts qs = append-nil _ ∙ texts qs
     texts [] = refl
     texts (q ∷ xs) = ap (λ ys. (text_of q ++ (10 ∷ [])) ++ ys) (texts xs)
 
-cut_written : (qs : List Request) → All Good qs → cut (protocol_of qs) ≡ record { lines = map text_of qs; rest = [] }
+cut_written : (qs : List Request) → AllByRecursion Good qs → cut (protocol_of qs) ≡ record { lines = map text_of qs; rest = [] }
 unfolding protocol_of cut
 cut_written [] h = refl
 cut_written (q ∷ qs) h =
@@ -81,7 +81,7 @@ unfolding requests_from by_line
 from_some n l ls r q e = ap (by_line n ls r) e
 
 abbrev Told : List (List ℕ) → List ℕ → List Request → Type 0
-Told ls r qs = All Good qs × (ls ≡ map text_of qs) × (r ≡ [])
+Told ls r qs = AllByRecursion Good qs × (ls ≡ map text_of qs) × (r ≡ [])
 
 from_is : (n : ℕ) (ls : List (List ℕ)) (r : List ℕ) (qs : List Request) → requests_from n ls r ≡ Ok qs → Told ls r qs
 unfolding requests_from
@@ -101,7 +101,7 @@ from_is n (l ∷ ls) r qs e = go (request_at l) refl (requests_from (n + 1) ls r
         subst (λ (xs : List Request). Told (l ∷ ls) r xs) same
         ((s.0, t.0), ap (λ x. x ∷ ls) s.1 ∙ ap (λ xs. text_of q ∷ xs) t.1, t.2)
 
-is_from : (n : ℕ) (qs : List Request) → All Good qs → requests_from n (map text_of qs) [] ≡ Ok qs
+is_from : (n : ℕ) (qs : List Request) → AllByRecursion Good qs → requests_from n (map text_of qs) [] ≡ Ok qs
 unfolding requests_from
 is_from n [] h = refl
 is_from n (q ∷ qs) h =

@@ -1,6 +1,6 @@
 -- What reading promises, in words of what was written.
 use Rattle.std.specs.Prelude.{◌≡◌, ℕ, ◌+◌, ◌-◌, ◌<◌, ◌≤◌, ◌⊎◌, ◌↔◌, List, [], map, length, Some, None, Ok, Err, Option, Result, slice_index_or}
-use Rattle.std.specs.List.{prefix_len, AllByRecursion as All}
+use Rattle.std.specs.List.{prefix_len, AllByRecursion}
 use Rattle.engine.specs.Runs.{Order}
 use Rattle.sheets.specs.Cut.{cut}
 use Rattle.protocols.specs.Reading.{request_at, readable, requests_in}
@@ -12,7 +12,7 @@ Spells l o = (q : Request) → (o ≡ Some q) ↔ (Good q × (l ≡ text_of q))
 
 -- these bytes are the protocol of these requests
 abbrev pub Written : List ℕ → List Request → Type 0
-Written bytes qs = All Good qs × (bytes ≡ protocol_of qs)
+Written bytes qs = AllByRecursion Good qs × (bytes ≡ protocol_of qs)
 
 -- bytes are read as requests exactly if they are the protocol of those
 abbrev pub Asks : List ℕ → Result (List Request) ℕ → Type 0

@@ -1,6 +1,6 @@
 -- What a line of a protocol asks for, and how it is written.
 use Rattle.std.specs.Prelude.{ℕ, ◌<◌, ◌≤◌, List, [], ◌∷◌, ◌++◌, replicate, codes, decimal}
-use Rattle.std.specs.List.{flat_map, AllByRecursion as All}
+use Rattle.std.specs.List.{flat_map, AllByRecursion}
 use Rattle.engine.specs.Runs.{Order}
 use Rattle.engine.specs.declared.act.Act.TheVariants as act
 use Rattle.lines.specs.Texts.{hexed}
@@ -26,7 +26,7 @@ Good restart = Unit {0}
 Good tally = Unit {0}
 Good (read size) = size ≤ most_size
 Good (save job size) = (job ≤ most_job) × (size ≤ most_size)
-Good (resume job bytes) = (job ≤ most_job) × All (λ b. b < 256) bytes
+Good (resume job bytes) = (job ≤ most_job) × AllByRecursion (λ b. b < 256) bytes
 
 -- bytes on a line: their digits, or a hyphen where there are none
 abbrev pub block_text : List ℕ → List ℕ

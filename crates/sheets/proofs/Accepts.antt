@@ -1,6 +1,6 @@
 -- A sheet that is written from good values is read as the plan of those values.
 use Rattle.std.proofs.Common.{◌≡◌, ℕ, ◌+◌, ◌^◌, ◌<◌, ◌≤◌, Bool, true, false, cond, ◌&&◌, ◌||◌, eqb, leb, ◌≢◌, List, [], ◌∷◌, ◌++◌, map, length, IfSome, Some, None, Ok, Err, decimal, Option, Result, unwrap_or, sym, refl, ap, ◌∙◌, arith}
-use Rattle.std.specs.List.{AllByRecursion as All}
+use Rattle.std.specs.List.{AllByRecursion}
 use Rattle.std.specs.Char.{is_ascii_digit}
 use Rattle.std.specs.Str.{all_ascii_digits}
 use Rattle.std.proofs.lemmas.List.{append_assoc}
@@ -30,7 +30,7 @@ use Rattle.sheets.proofs.Steps.{in_place, bytes_good, read_on}
 
 -- ---- written lines are cut where they were joined
 
-no_break_digits : (ds : List ℕ) → all_ascii_digits ds ≡ true → All (λ b. b ≢ 10) ds
+no_break_digits : (ds : List ℕ) → all_ascii_digits ds ≡ true → AllByRecursion (λ b. b ≢ 10) ds
 no_break_digits [] h = tt
 no_break_digits (d ∷ ds) h =
     let p = and_parts (is_ascii_digit d) (all_ascii_digits ds) h in
@@ -39,14 +39,14 @@ no_break_digits (d ∷ ds) h =
     digit-is-no-break : (d : ℕ) → is_ascii_digit d ≡ true → d ≢ 10
     digit-is-no-break d h = grind (arith, nat_tests)
 
-no_break_append : (xs ys : List ℕ) → All (λ b. b ≢ 10) xs → All (λ b. b ≢ 10) ys → All (λ b. b ≢ 10) (xs ++ ys)
+no_break_append : (xs ys : List ℕ) → AllByRecursion (λ b. b ≢ 10) xs → AllByRecursion (λ b. b ≢ 10) ys → AllByRecursion (λ b. b ≢ 10) (xs ++ ys)
 no_break_append [] ys hx hy = hy
 no_break_append (x ∷ xs) ys hx hy = (hx.0, no_break_append xs ys hx.1 hy)
 
-no_break_decimal : (n : ℕ) → n < 10 ^ 7 → All (λ b. b ≢ 10) (decimal n)
+no_break_decimal : (n : ℕ) → n < 10 ^ 7 → AllByRecursion (λ b. b ≢ 10) (decimal n)
 no_break_decimal n h = no_break_digits (decimal n) (digits_in n h)
 
-no_break_text : (x : Line) → Short x → All (λ b. b ≢ 10) (text_of x)
+no_break_text : (x : Line) → Short x → AllByRecursion (λ b. b ≢ 10) (text_of x)
 no_break_text (Regions n) h = (omega arith, (omega arith, no_break_decimal n h))
 no_break_text (Polygon n) h = (omega arith, (omega arith, no_break_decimal n h))
 no_break_text (Pair a b) h = (
@@ -56,7 +56,7 @@ no_break_text (Pair a b) h = (
 no_break_text (Cap c) h = (omega arith, (omega arith, no_break_decimal c h))
 no_break_text (Stop m) h = (omega arith, (omega arith, no_break_decimal m h))
 
-cut_sheet : (xs : List Line) → All Short xs → cut (sheet_of xs) ≡ record { lines = map text_of xs; rest = [] }
+cut_sheet : (xs : List Line) → AllByRecursion Short xs → cut (sheet_of xs) ≡ record { lines = map text_of xs; rest = [] }
 unfolding cut sheet_of
 cut_sheet [] h = refl
 cut_sheet (x ∷ xs) h =
@@ -120,7 +120,7 @@ pair_unset m a b k e = ap (by_fault m a b) e
 
 -- pair lines, and then whatever gives the plan
 read_pairs : (n : ℕ) (k : Kind) (m : touch.Regions) (ps : List (ℕ × ℕ)) (ys : List Line) (w : Result Wanted Fault)
-    → InBody k → m.count_of ≤ 64 → All (GoodPair m.count_of) ps
+    → InBody k → m.count_of ≤ 64 → AllByRecursion (GoodPair m.count_of) ps
     → ((n' : ℕ) (k' : Kind) → InBody k'
     → read_from n' (body k' (regions (record { count_of = m.count_of; rows = table_after m.rows ps }))) (map text_of ys) [] ≡ w)
     → read_from n (body k (regions m)) (map text_of (map pair_line ps ++ ys)) [] ≡ w
@@ -158,21 +158,21 @@ read_lines (of_polygon n) c m g hc hm =
 
 -- ---- no number of a good sheet has more than seven digits
 
-short_append : (xs ys : List Line) → All Short xs → All Short ys → All Short (xs ++ ys)
+short_append : (xs ys : List Line) → AllByRecursion Short xs → AllByRecursion Short ys → AllByRecursion Short (xs ++ ys)
 short_append [] ys hx hy = hy
 short_append (x ∷ xs) ys hx hy = (hx.0, short_append xs ys hx.1 hy)
 
-short_pairs : (n : ℕ) (ps : List (ℕ × ℕ)) → n ≤ 64 → All (GoodPair n) ps → All Short (map pair_line ps)
+short_pairs : (n : ℕ) (ps : List (ℕ × ℕ)) → n ≤ 64 → AllByRecursion (GoodPair n) ps → AllByRecursion Short (map pair_line ps)
 short_pairs n [] few h = tt
 short_pairs n (p ∷ ps) few h = ((omega (arith, h.0), omega (arith, h.0)), short_pairs n ps few h.1)
 
 short_tail : (c : Option ℕ) (m : ℕ) → IfSome c (λ h. h ≤ most_number) → m ≤ most_number
-    → All Short (cap_lines c ++ (Stop m ∷ []))
+    → AllByRecursion Short (cap_lines c ++ (Stop m ∷ []))
 short_tail None m hc hm = (omega arith, tt)
 short_tail (Some c) m hc hm = (omega arith, (omega arith, tt))
 
 short_lines : (s : Subject) (c : Option ℕ) (m : ℕ) → GoodSubject s → IfSome c (λ h. h ≤ most_number) → m ≤ most_number
-    → All Short (subject_lines s ++ (cap_lines c ++ (Stop m ∷ [])))
+    → AllByRecursion Short (subject_lines s ++ (cap_lines c ++ (Stop m ∷ [])))
 short_lines (of_regions n ps) c m g hc hm =
     (omega arith, short_append (map pair_line ps) _ (short_pairs n ps g.1 g.2) (short_tail c m hc hm))
 short_lines (of_polygon n) c m g hc hm = (omega arith, short_tail c m hc hm)

@@ -1,6 +1,6 @@
 -- Every sheet that is accepted is the writing of what it is accepted as.
 use Rattle.std.proofs.Common.{◌≡◌, ℕ, ◌+◌, ◌<◌, ◌≤◌, Bool, true, false, cond, ◌&&◌, eqb, leb, ◌⊎◌, List, [], ◌∷◌, ◌++◌, map, length, IfSome, Some, None, Ok, Err, Option, Result, unwrap_or, sym, refl, ap, ◌∙◌, subst, inl, inr}
-use Rattle.std.specs.List.{flat_map, AllByRecursion as All}
+use Rattle.std.specs.List.{flat_map, AllByRecursion}
 use Rattle.std.proofs.lemmas.List.{append-nil}
 use Rattle.std.proofs.lemmas.Bool.{and_parts, leb-true, eqb-true, cond-true, cond-false, cases_lt}
 use Rattle.refusals.specs.declared.Refusal.{Refusal}
@@ -208,7 +208,7 @@ polygon_rest k n (Stop m ∷ xs) w b h = at_body_stop k (polygon n) h.0 m xs w (
 -- regions take pairs, each of two different regions
 abbrev Pairs : touch.Regions → List Line → Wanted → Type 0
 Pairs m xs w =
-    (ps : List (ℕ × ℕ)) × All (GoodPair m.count_of) ps × (ys : List Line) × (xs ≡ map pair_line ps ++ ys)
+    (ps : List (ℕ × ℕ)) × AllByRecursion (GoodPair m.count_of) ps × (ys : List Line) × (xs ≡ map pair_line ps ++ ys)
     × Rest (regions (record { count_of = m.count_of; rows = table_after m.rows ps })) ys w
 
 abbrev with_one : touch.Regions → ℕ → ℕ → touch.Regions
@@ -305,7 +305,7 @@ asked_by (Cap c ∷ xs) w h = no_true (placed unset h.0 (Cap c) h.2).0
 asked_by (Stop m ∷ xs) w h = no_true (placed unset h.0 (Stop m) h.2).0
 
 -- the touch table of good pairs is the one that a map of them has
-after_all : (m : touch.Regions) (ps : List (ℕ × ℕ)) → All (GoodPair m.count_of) ps
+after_all : (m : touch.Regions) (ps : List (ℕ × ℕ)) → AllByRecursion (GoodPair m.count_of) ps
     → after_pairs m ps ≡ Ok (record { count_of = m.count_of; rows = table_after m.rows ps })
 unfolding after_pairs table_after
 after_all m [] h = refl

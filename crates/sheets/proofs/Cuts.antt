@@ -1,6 +1,6 @@
 -- A sheet cut at its first byte 10, and what cutting the lines of a written sheet gives.
 use Rattle.std.proofs.Common.{◌≡◌, ℕ, suc, ◌+◌, ◌<◌, ◌≤◌, Bool, true, false, cond, not, eqb, ◌≢◌, List, [], ◌∷◌, ◌++◌, length, take, drop, sym, refl, ap, ◌∙◌, add-one, arith}
-use Rattle.std.specs.List.{AllByRecursion as All}
+use Rattle.std.specs.List.{AllByRecursion}
 use Rattle.std.proofs.lemmas.Bool.{ne_eqb}
 use Rattle.sheets.specs.Cut.{Cut, cut, in_front, line_length}
 
@@ -21,7 +21,7 @@ unfolding cut by_break
 cut_byte b bs e = ap (by_break b bs) e
 
 -- a line without byte 10 is cut off at its end
-pub cut_line : (l r : List ℕ) → All (λ b. b ≢ 10) l
+pub cut_line : (l r : List ℕ) → AllByRecursion (λ b. b ≢ 10) l
     → cut (l ++ (10 ∷ r)) ≡ record { lines = l ∷ (cut r).lines; rest = (cut r).rest }
 cut_line [] r h = cut_break 10 r refl
 cut_line (b ∷ l) r h =
@@ -29,7 +29,7 @@ cut_line (b ∷ l) r h =
     ∙ ap (λ (c : Cut). in_front b c.lines c.rest) (cut_line l r h.1)
 
 -- bytes without byte 10 are no finished line
-pub cut_rest : (r : List ℕ) → All (λ b. b ≢ 10) r → cut r ≡ record { lines = []; rest = r }
+pub cut_rest : (r : List ℕ) → AllByRecursion (λ b. b ≢ 10) r → cut r ≡ record { lines = []; rest = r }
 unfolding cut
 cut_rest [] h = refl
 cut_rest (b ∷ r) h =

@@ -1,6 +1,6 @@
 -- Sheets as they are written in decimal.
 use Rattle.std.specs.Prelude.{ℕ, ◌<◌, ◌≤◌, ◌≢◌, List, [], ◌∷◌, ◌++◌, map, IfSome, Some, None, Option}
-use Rattle.std.specs.List.{flat_map, AllByRecursion as All}
+use Rattle.std.specs.List.{flat_map, AllByRecursion}
 use Rattle.std.specs.Option.{unwrap_or}
 use Rattle.items.specs.Texts.{text_of}
 use Rattle.items.specs.declared.line.Line.{Line}
@@ -28,7 +28,7 @@ abbrev pub GoodPair : ℕ → ℕ × ℕ → Type 0
 GoodPair n p = (p.0 < n) × (p.1 < n) × (p.0 ≢ p.1)
 
 abbrev pub GoodSubject : Subject → Type 0
-GoodSubject (of_regions n ps) = (1 ≤ n) × (n ≤ most_regions) × All (GoodPair n) ps
+GoodSubject (of_regions n ps) = (1 ≤ n) × (n ≤ most_regions) × AllByRecursion (GoodPair n) ps
 GoodSubject (of_polygon n) = (fewest_corners ≤ n) × (n ≤ most_corners)
 
 abbrev pub Good : Content → Type 0

@@ -2,7 +2,7 @@
 use Rattle.std.specs.Prelude.{◌≡◌, ℕ, zero, suc, ◌<◌, ◌≤◌, [], ◌∷◌, length, Some, None, ◌≢◌, refl}
 use Rattle.std.proofs.Common.{lit<, lit≤, subst, subst₂, arith}
 use Rattle.std.proofs.lemmas.Bool.{ltb-true, lt-ltb}
-use Rattle.std.specs.List.{AllByRecursion as All}
+use Rattle.std.specs.List.{AllByRecursion}
 use Rattle.oracle.specs.Laws.{Object, Lawful}
 use Rattle.oracle.specs.Setup.{Code, Slot, vacant, filled}
 use Rattle.tiny_path.specs.Setup.{code, path}
@@ -88,7 +88,7 @@ path_lawful =
       size_limit = lit≤ tt;
       height_limit = lit≤ tt;
       code_size = each_object (λ v. length v ≡ 1) refl refl refl;
-      code_bytes = each_object (λ v. All (λ b. b < 256) v) (lit< tt, tt) (lit< tt, tt) (lit< tt, tt);
+      code_bytes = each_object (λ v. AllByRecursion (λ b. b < 256) v) (lit< tt, tt) (lit< tt, tt) (lit< tt, tt);
       rank_limit = each_object (λ v. path.rank v ≤ 2) (lit≤ tt) (lit≤ tt) (lit≤ tt);
       neighbour_object = λ v w j k o lt e. (leads_back v o j lt w k e).0;
       return_below = λ v w j k o lt e. (leads_back v o j lt w k e).1;

@@ -7,7 +7,7 @@ use Rattle.std.proofs.lemmas.List.{get_or_past, ext_get_or}
 use Rattle.std.proofs.lemmas.Bool.{cases_lt}
 use Rattle.std.proofs.lemmas.Bool.Decides.{Decides-eqb, Decides-ltb, Decides-and, Decides-like}
 use Rattle.std.proofs.ByRecursion.{Decides-by_and}
-use Rattle.std.specs.List.{range_with_len, AllByRecursion as All}
+use Rattle.std.specs.List.{range_with_len, AllByRecursion}
 use Rattle.digits.proofs.Digits.{bit_small, bit_zero, bit_mod, same_bits}
 use Rattle.digits.specs.Bits.{bit, count}
 use Rattle.masks.specs.Codes.{all_bytes}
@@ -103,7 +103,7 @@ code_members v r =
         same_bits 8 (byte_of (members v) k) (get_or v k 0) (byte_less (members v) (members_small v) k) (at_all v k r.bytes (omega (arith, r.size)))
         (λ i h. byte_digit (members v) (members_small v) k i h ∙ place i h)
       where
-        at_all : (w : Code) (j : ℕ) → All (λ b. b < 256) w → j < length w → get_or w j 0 < 2 ^ 8
+        at_all : (w : Code) (j : ℕ) → AllByRecursion (λ b. b < 256) w → j < length w → get_or w j 0 < 2 ^ 8
         at_all [] j a h = absurd (omega arith)
         at_all (b ∷ bs) zero a h = a.0
         at_all (b ∷ bs) (suc j) a h = at_all bs j a.1 (omega arith)
@@ -118,11 +118,11 @@ pub code_row : (S : PairSet) → Small S → Row (code_of S)
 unfolding code_of
 code_row S small = record { size = length_code S; bytes = all_map (range_with_len 0 35) }
   where
-    all_map : (ks : List ℕ) → All (λ b. b < 256) (map (byte_of S) ks)
+    all_map : (ks : List ℕ) → AllByRecursion (λ b. b < 256) (map (byte_of S) ks)
     all_map [] = tt
     all_map (k ∷ ks) = (byte_less S small k, all_map ks)
 
-bytes_decides : (v : Code) → Decides (all_bytes v) (All (λ b. b < 256) v)
+bytes_decides : (v : Code) → Decides (all_bytes v) (AllByRecursion (λ b. b < 256) v)
 unfolding all_bytes
 bytes_decides v = Decides-by_and (λ b. ltb b 256) (λ b. b < 256) all_bytes (λ b. Decides-ltb b 256) refl (λ _ _. refl) v
 
