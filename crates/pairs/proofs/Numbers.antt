@@ -50,7 +50,7 @@ corners_past e h = get_or_past (pairs_below 24) e (0, 0) (omega (arith, length_t
 
 -- ---- the order of the numbers
 
-pair_count_more : (b : ℕ) → pair_count (suc b) ≡ pair_count b + b
+pub pair_count_more : (b : ℕ) → pair_count (suc b) ≡ pair_count b + b
 unfolding pair_count
 pair_count_more zero = refl
 pair_count_more (suc k) =

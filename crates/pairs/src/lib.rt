@@ -284,13 +284,23 @@ const PAIRS: [(u32, u32); 276] = [
     (22, 23),
 ];
 
+// The corners of pair number e.
+fn pair_at(e: usize) -> (u32, u32)
+    requires { e < 276 }
+    ensures value { result ≡ corners_of e }
+    ensures rule { Entry e result }
+{
+    let table: &[(u32, u32); 276] = &PAIRS;
+    // part by part: a pair that is copied whole is compiled to one word, which each use then splits
+    (table[e].0, table[e].1)
+}
+
 // The corners of pair number e; a number past the last pair has none, which reads (0, 0).
 pub fn corners(e: usize) -> (u32, u32)
     ensures value { result ≡ corners_of e }
     ensures rule { e < 276 → Entry e result }
 {
-    let table: &[(u32, u32); 276] = &PAIRS;
-    if e < 276 { table[e] } else { (0, 0) }
+    if e < 276 { pair_at(e) } else { (0, 0) }
 }
 
 // The number of the pair (a, b).

@@ -25,10 +25,10 @@ use Rattle.polygon.specs.Rows.{linked, Tied, span, stays_within, is_free, fits}
 
 -- ---- the digits of a span
 
-bit_shl_high : (s k i : ℕ) → bit (s * 2 ^ k) (k + i) ≡ bit s i
+pub bit_shl_high : (s k i : ℕ) → bit (s * 2 ^ k) (k + i) ≡ bit s i
 bit_shl_high s k i = sym (bit_shr (s * 2 ^ k) k i) ∙ ap (λ (x : ℕ). bit x i) (shl-shr s k)
 
-bit_shl_low : (s k i : ℕ) → i < k → bit (s * 2 ^ k) i ≡ 0
+pub bit_shl_low : (s k i : ℕ) → i < k → bit (s * 2 ^ k) i ≡ 0
 unfolding bit
 bit_shl_low s k i h =
     let e : k ≡ suc (k - suc i) + i = omega arith in

@@ -13,11 +13,11 @@ use Rattle.polygon.proofs.Agreement.{Agree, tied_same}
 pub first_of : PairSet → ℕ → PairSet
 first_of S e x = cond (ltb x e) (S x) 0
 
-first_under : (S : PairSet) (e x : ℕ) → x < e → first_of S e x ≡ S x
+pub first_under : (S : PairSet) (e x : ℕ) → x < e → first_of S e x ≡ S x
 unfolding first_of
 first_under S e x h = cond-true (ltb x e) (S x) 0 (lt-ltb x e h)
 
-first_over : (S : PairSet) (e x : ℕ) → e ≤ x → first_of S e x ≡ 0
+pub first_over : (S : PairSet) (e x : ℕ) → e ≤ x → first_of S e x ≡ 0
 unfolding first_of
 first_over S e x h = cond-false (ltb x e) (S x) 0 (le-ltb x e h)
 

@@ -1,7 +1,8 @@
 -- Which pairs the rows hold.
-use Rattle.std.proofs.Common.{◌≡◌, ℕ, ◌<◌, ◌≤◌, true, false, eqb, List, sym, ap, ◌∙◌, arith}
-use Rattle.std.proofs.lemmas.Bool.{cond-true, cond-false}
-use Rattle.pairs.specs.Pairs.{corners_of}
+use Rattle.std.proofs.Common.{◌≡◌, ℕ, ◌<◌, ◌≤◌, Bool, true, false, eqb, ◌⊎◌, List, sym, refl, ap, ◌∙◌, inl, inr, arith}
+use Rattle.std.proofs.lemmas.Bool.{cases_lt, cond-true, cond-false, eq-eqb}
+use Rattle.pairs.proofs.Numbers.{entry, corners_past, corners_below, pair_count_limit}
+use Rattle.pairs.specs.Pairs.{corners_of, pair_count}
 use Rattle.triangulations.proofs.Tests.{diagonal_decides}
 use Rattle.triangulations.specs.Polygon.{is_diagonal}
 use Rattle.polygon.specs.Rows.{linked, set_of}
@@ -10,13 +11,35 @@ set_of_in : (n : ℕ) (rows : List ℕ) (e : ℕ) → is_diagonal n (corners_of 
 unfolding set_of
 set_of_in n rows e h = cond-true (is_diagonal n (corners_of e)) (linked rows (corners_of e).0 (corners_of e).1) 0 h
 
-set_of_out : (n : ℕ) (rows : List ℕ) (e : ℕ) → is_diagonal n (corners_of e) ≡ false → set_of n rows e ≡ 0
+pub set_of_out : (n : ℕ) (rows : List ℕ) (e : ℕ) → is_diagonal n (corners_of e) ≡ false → set_of n rows e ≡ 0
 unfolding set_of
 set_of_out n rows e h = cond-false (is_diagonal n (corners_of e)) (linked rows (corners_of e).0 (corners_of e).1) 0 h
 
 -- the corners of a diagonal index the rows
 pub diagonal_small : (n : ℕ) (p : ℕ × ℕ) → n ≤ 24 → is_diagonal n p ≡ true → (p.0 < 24) × (p.1 < 24) × (p.0 < p.1)
 diagonal_small n p few h = let d = (diagonal_decides n p).0 h in (omega arith, omega arith, d.0)
+
+-- the corners of any number index the rows
+pub corners_limit : (e : ℕ) (p : ℕ × ℕ) → p ≡ corners_of e → (p.0 < 24) × (p.1 < 24)
+corners_limit e p at = go (cases_lt e 276)
+  where
+    go : (e < 276) ⊎ (276 ≤ e) → (p.0 < 24) × (p.1 < 24)
+    go (inl h) =
+        let t = entry e h in
+        let low = ap (λ (q : ℕ × ℕ). q.0) at in
+        let high = ap (λ (q : ℕ × ℕ). q.1) at in
+        (omega (arith, t.ascending, t.within), omega (arith, t.within))
+    go (inr h) =
+        let none = at ∙ corners_past e h in
+        (omega (arith, ap (λ (q : ℕ × ℕ). q.0) none), omega (arith, ap (λ (q : ℕ × ℕ). q.1) none))
+
+-- a number below the width is that of a pair of the polygon's corners
+pub corners_in : (n e : ℕ) (p : ℕ × ℕ) → p ≡ corners_of e → n ≤ 24 → e < pair_count n → (p.0 < p.1) × (p.1 < n)
+corners_in n e p at few l =
+    let up = (entry e (omega (arith, pair_count_limit n few))).ascending in
+    let low = ap (λ (q : ℕ × ℕ). q.0) at in
+    let high = ap (λ (q : ℕ × ℕ). q.1) at in
+    (omega arith, omega (arith, corners_below n e few l))
 
 -- the test of a pair with the corners p
 module _ (n : ℕ) (rows : List ℕ) (e : ℕ) (p : ℕ × ℕ) (at : p ≡ corners_of e) where
@@ -27,3 +50,17 @@ module _ (n : ℕ) (rows : List ℕ) (e : ℕ) (p : ℕ × ℕ) (at : p ≡ corn
 
   pub held_out : is_diagonal n p ≡ false → false ≡ eqb (set_of n rows e) 1
   held_out h = ap (λ (x : ℕ). eqb x 1) (sym (set_of_out n rows e (ap (is_diagonal n) (sym at) ∙ h)))
+
+  pub held_joined : linked rows p.0 p.1 ≡ 1 → is_diagonal n p ≡ eqb (set_of n rows e) 1
+  held_joined m = go (is_diagonal n p) refl
+    where
+      go : (b : Bool) → is_diagonal n p ≡ b → is_diagonal n p ≡ eqb (set_of n rows e) 1
+      go true h = h ∙ sym (eq-eqb (linked rows p.0 p.1) 1 m) ∙ held_in h
+      go false h = h ∙ held_out h
+
+  pub held_apart : eqb (linked rows p.0 p.1) 1 ≡ false → false ≡ eqb (set_of n rows e) 1
+  held_apart m = go (is_diagonal n p) refl
+    where
+      go : (b : Bool) → is_diagonal n p ≡ b → false ≡ eqb (set_of n rows e) 1
+      go true h = sym m ∙ held_in h
+      go false h = held_out h

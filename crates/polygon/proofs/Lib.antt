@@ -9,6 +9,8 @@ pub mod CornerZero
 pub mod Steps
 pub mod Standing
 pub mod Holding
+pub mod Ends
+pub mod Reading
 pub mod Putting
 pub mod Taking
 pub mod Stepping

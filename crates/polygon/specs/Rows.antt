@@ -1,9 +1,9 @@
 -- Adjacency rows: digit b of row a is 1 where the corners a and b are joined by a side or a diagonal.
-use Rattle.std.specs.Prelude.{◌≡◌, ℕ, ◌+◌, ◌-◌, ◌/◌, ◌^◌, Bool, true, false, cond, List, ◌==◌, bit_and, bit_xor, nat_eq, slice_index, slice_set}
+use Rattle.std.specs.Prelude.{◌≡◌, ℕ, ◌+◌, ◌-◌, ◌/◌, ◌^◌, Bool, true, false, cond, List, ◌==◌, bit_and, bit_xor, nat_eq, nat_lt, slice_index, slice_set}
 use Rattle.std.specs.Int.Count.{count_trailing_zeros}
 use Rattle.digits.specs.Bits.{bit}
 use Rattle.oracle.specs.Setup.{Code}
-use Rattle.pairs.specs.Pairs.{corners_of}
+use Rattle.pairs.specs.Pairs.{number, corners_of}
 use Rattle.triangulations.specs.Codes.{members}
 use Rattle.triangulations.specs.Moves.{joined}
 use Rattle.triangulations.specs.Polygon.{is_diagonal}
@@ -21,6 +21,10 @@ Tied n S rows = (a b : ℕ) → linked rows a b ≡ joined n S a b
 -- The diagonals among the joined corners.
 unfoldable pub set_of : ℕ → List ℕ → PairSet
 set_of n rows e = cond (is_diagonal n (corners_of e)) (linked rows (corners_of e).0 (corners_of e).1) 0
+
+-- The pairs with the second corner b as digits: digit a is 1 if pair (a, b) is in the set.
+unfoldable pub end_of : ℕ → List ℕ → ℕ → ℕ → ℕ
+end_of n rows b a = cond (nat_lt a b) (set_of n rows (number a b)) 0
 
 -- The rows with the corners a and b parted if they were joined, and joined if they were not.
 abbrev pub half_switched : List ℕ → ℕ → ℕ → List ℕ

@@ -1,6 +1,8 @@
 //! Codes: writing the current one, and going to the triangulation of a row of bytes.
-ghost use Rattle.std.specs.Prelude.{◌≡◌, ◌<◌, ◌≤◌, length};
-ghost use Rattle.polygon.specs.Rows.{Tied, fits, set_of};
+ghost use Rattle.std.specs.Prelude.{◌≡◌, ℕ, ◌*◌, ◌<◌, ◌≤◌, length};
+ghost use Rattle.digits.specs.Bits.{bit};
+ghost use Rattle.pairs.specs.Pairs.{pair_count};
+ghost use Rattle.polygon.specs.Rows.{Tied, fits, set_of, end_of};
 ghost use Rattle.triangulations.specs.Codes.{members, byte_of};
 ghost use Rattle.triangulations.specs.Search.{every};
 
@@ -8,7 +10,7 @@ use super::rows::{is_diagonal, is_free, side_rows, switch};
 use super::subject::Polygon;
 use oracle::coded::Coded;
 use oracle::walking::Walking;
-use pairs::corners;
+use pairs::{corners, pair_total};
 use refusals::Refusal;
 
 // The digit of pair e in a row of bytes.
@@ -64,18 +66,44 @@ fn all_fit(n: u32, row: &[u8], rows: &[u32; 24]) -> bool
 }
 
 impl Polygon {
+    // The corners below b that a diagonal joins to b: digit a is 1 if pair (a, b) is in the current set.
+    fn ends(&self, b: u32) -> u32
+        requires { (0 < b) × (b < self.now.n) }
+        ensures { (a : ℕ) → bit result a ≡ end_of self.now.n self.now.rows b a }
+    {
+        // the side to b - 1 is left out, and that from 0 to n - 1
+        let sides = if b + 1 == self.n { 2 } else { 1 };
+        self.rows[b as usize] & ((1u32 << (b - 1)) - sides)
+    }
+
+    // Byte k of the current code, if it has pairs of the polygon. The pairs of one second corner have
+    // numbers in a row, so that their digits stand together.
+    fn filled_byte(&self, k: usize) -> u8
+        requires { 8 * k < pair_count self.now.n }
+        ensures { result ≡ byte_of (set_of self.now.n self.now.rows) k }
+    {
+        let (a, b) = corners(8 * k);
+        let mut digits = self.ends(b) >> a;
+        let mut read = b - a;
+        let mut next = b + 1;
+        'fill: while read < 8 && next < self.n {
+            digits |= self.ends(next) << read;
+            read += next;
+            next += 1;
+        }
+        (digits % 256) as u8
+    }
+
     // Byte k of the current code.
     fn byte(&self, k: usize) -> u8
         requires { k < 35 }
         ensures { result ≡ byte_of (set_of self.now.n self.now.rows) k }
     {
-        let mut byte = 0u8;
-        for i in 0..8 {
-            if self.has(8 * k + i) {
-                byte += 1u8 << i;
-            }
+        // the pairs of the polygon have the lowest numbers: no byte after theirs has a digit
+        if 8 * k >= pair_total(self.n) {
+            return 0;
         }
-        byte
+        self.filled_byte(k)
     }
 }
 

@@ -22,11 +22,11 @@ impl Polygon {
         Ok(Polygon { n, rows })
     }
 
-    // Whether pair e is in the current set.
+    // Whether pair e is in the current set. Most pairs are not joined, so that is asked first.
     pub(crate) fn has(&self, e: usize) -> bool
         ensures { result ≡ (set_of self.now.n self.now.rows e == 1) }
     {
         let (a, b) = corners(e);
-        is_diagonal(self.n, a, b) && are_joined(&self.rows, a, b)
+        are_joined(&self.rows, a, b) && is_diagonal(self.n, a, b)
     }
 }
