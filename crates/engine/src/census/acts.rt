@@ -29,6 +29,7 @@ impl<O: Walking> Census<O> {
     }
 
     // Does what making does.
+    #[tactic(auto, using(crate::proofs::Moves::begins))]
     pub fn restart(&mut self)
         requires { O.Walking.sound self.old.oracle }
         ensures sound { O.Walking.sound self.new.oracle }
