@@ -1,5 +1,5 @@
 -- What a step below tells of the capped step, and a code taken below of the capped take.
-use Rattle.std.proofs.Common.{◌≡◌, ℕ, ◌-◌, ◌<◌, ◌≤◌, Bool, true, false, ltb, leb, List, ◌++◌, length, take, drop, Ok, Err, Result, sym, refl, ap, ◌∙◌, arith}
+use Rattle.std.proofs.Common.{◌≡◌, ℕ, ◌<◌, ◌≤◌, Bool, true, false, ltb, leb, List, ◌++◌, length, take, drop, Some, None, Ok, Err, Option, Result, sym, refl, ap, ◌∙◌, arith}
 use Rattle.std.proofs.lemmas.List.{take_at}
 use Rattle.std.proofs.lemmas.Bool.{ltb-true, lt-ltb, le-ltb, lt-leb, and_right, cond-false}
 use Rattle.refusals.specs.declared.Refusal.{Refusal}
@@ -7,15 +7,13 @@ use Rattle.refusals.specs.declared.Refusal.TheVariants.{BufferShort, NotACode, S
 use Rattle.oracle.specs.Calls.{into, stepped, written, taken}
 use Rattle.oracle.specs.Laws.{Object, Lawful}
 use Rattle.oracle.specs.Setup.{Code, Setup, Slot, vacant, filled}
-use Rattle.oracle.specs.declared.step.Step.{Step}
-use Rattle.oracle.specs.declared.step.Step.TheVariants.{Vacant, Back}
 use Rattle.cap.specs.Capped.{kept, capped}
 use Rattle.cap.specs.Laws.{kept_low}
 
 Answer : Type 0
-Answer = Result Step Refusal × Code
+Answer = Result (Option ℕ) Refusal × Code
 
-by_width : Code → Slot → Bool → Result Step Refusal × Code
+by_width : Code → Slot → Bool → Result (Option ℕ) Refusal × Code
 by_width v x t = elim t [ true ↦ into v x | false ↦ (Err SlotRange, v) ]
 
 module _ (s : Setup) (v : Code) (j : ℕ) where
@@ -24,29 +22,29 @@ module _ (s : Setup) (v : Code) (j : ℕ) where
   below h = ap (by_width v (s.slot v j)) (lt-ltb j s.width h)
 
   -- a step that is not refused was by a slot below the width
-  granted : (r : Step) (u : Code) → (Ok r, u) ≡ stepped s v j → (j < s.width) × ((Ok r, u) ≡ into v (s.slot v j))
+  granted : (r : Option ℕ) (u : Code) → (Ok r, u) ≡ stepped s v j → (j < s.width) × ((Ok r, u) ≡ into v (s.slot v j))
   unfolding by_width
   granted r u e = go (ltb j s.width) refl
     where
       go : (t : Bool) → ltb j s.width ≡ t → (j < s.width) × ((Ok r, u) ≡ into v (s.slot v j))
       go true f = (ltb-true j s.width f, e ∙ ap (by_width v (s.slot v j)) f)
       go false f =
-          let same : ◌≡◌ {A = Result Step Refusal} (Ok r) (Err SlotRange) = ap (λ (p : Result Step Refusal × Code). p.0) (e ∙ ap (by_width v (s.slot v j)) f) in
+          let same : ◌≡◌ {A = Result (Option ℕ) Refusal} (Ok r) (Err SlotRange) = ap (λ (p : Result (Option ℕ) Refusal × Code). p.0) (e ∙ ap (by_width v (s.slot v j)) f) in
           absurd (let z : ◌≡◌ {A = ℕ} 0 1 = cc in omega arith)
 
-  was-filled : (k : ℕ) (w : Code) (x : Slot) → (Ok (Back k), w) ≡ into v x → x ≡ filled w k
+  was-filled : (k : ℕ) (w : Code) (x : Slot) → (Ok (Some k), w) ≡ into v x → x ≡ filled w k
   was-filled k w vacant e =
-      let same : ◌≡◌ {A = Result Step Refusal} (Ok (Back k)) (Ok Vacant) = ap (λ (p : Result Step Refusal × Code). p.0) e in
+      let same : ◌≡◌ {A = Result (Option ℕ) Refusal} (Ok (Some k)) (Ok None) = ap (λ (p : Result (Option ℕ) Refusal × Code). p.0) e in
       absurd (let z : ◌≡◌ {A = ℕ} 0 1 = cc in omega arith)
   was-filled k w (filled u i) e =
-      let same : ◌≡◌ {A = Result Step Refusal} (Ok (Back k)) (Ok (Back i)) = ap (λ (p : Result Step Refusal × Code). p.0) e in
-      let here : w ≡ u = ap (λ (p : Result Step Refusal × Code). p.1) e in
+      let same : ◌≡◌ {A = Result (Option ℕ) Refusal} (Ok (Some k)) (Ok (Some i)) = ap (λ (p : Result (Option ℕ) Refusal × Code). p.0) e in
+      let here : w ≡ u = ap (λ (p : Result (Option ℕ) Refusal × Code). p.1) e in
       cc
 
-  was-vacant : (u : Code) (x : Slot) → (Ok Vacant, u) ≡ into v x → (x ≡ vacant) × (u ≡ v)
-  was-vacant u vacant e = (refl, ap (λ (p : Result Step Refusal × Code). p.1) e)
+  was-vacant : (u : Code) (x : Slot) → (Ok None, u) ≡ into v x → (x ≡ vacant) × (u ≡ v)
+  was-vacant u vacant e = (refl, ap (λ (p : Result (Option ℕ) Refusal × Code). p.1) e)
   was-vacant u (filled w k) e =
-      let same : ◌≡◌ {A = Result Step Refusal} (Ok Vacant) (Ok (Back k)) = ap (λ (p : Result Step Refusal × Code). p.0) e in
+      let same : ◌≡◌ {A = Result (Option ℕ) Refusal} (Ok None) (Ok (Some k)) = ap (λ (p : Result (Option ℕ) Refusal × Code). p.0) e in
       absurd (let z : ◌≡◌ {A = ℕ} 0 1 = cc in omega arith)
 
 -- the slot that leads above the cap is vacant
@@ -59,32 +57,32 @@ unfolding kept
 kept_vacant c s = refl
 
 module _ (c : ℕ) (s : Setup) (v : Code) (j : ℕ) where
-  pub step_vacant : (u : Code) → (Ok Vacant, u) ≡ stepped s v j → ((Ok Vacant, u) ≡ stepped (capped c s) v j) × (u ≡ v)
+  pub step_vacant : (u : Code) → (Ok None, u) ≡ stepped s v j → ((Ok None, u) ≡ stepped (capped c s) v j) × (u ≡ v)
   step_vacant u e =
-      let g = granted s v j Vacant u e in
+      let g = granted s v j None u e in
       let f = was-vacant s v j u (s.slot v j) g.1 in (
-        ap (λ x. (Ok Vacant, x)) f.1 ∙ ap (into v) (sym (ap (kept c s) f.0 ∙ kept_vacant c s)) ∙ sym (below (capped c s) v j g.0),
+        ap (λ x. (Ok None, x)) f.1 ∙ ap (into v) (sym (ap (kept c s) f.0 ∙ kept_vacant c s)) ∙ sym (below (capped c s) v j g.0),
         f.1,
       )
 
-  pub step_low : (k : ℕ) (w : Code) → (Ok (Back k), w) ≡ stepped s v j → s.rank w ≤ c
-      → (Ok (Back k), w) ≡ stepped (capped c s) v j
+  pub step_low : (k : ℕ) (w : Code) → (Ok (Some k), w) ≡ stepped s v j → s.rank w ≤ c
+      → (Ok (Some k), w) ≡ stepped (capped c s) v j
   step_low k w e low =
-      let g = granted s v j (Back k) w e in
+      let g = granted s v j (Some k) w e in
       let f = was-filled s v j k w (s.slot v j) g.1 in
       ap (into v) (sym (kept_low c s (s.slot v j) w k f low)) ∙ sym (below (capped c s) v j g.0)
 
   -- above the cap the step back by the return slot leads to where it came from
-  pub step_high : Lawful s → Object s v → (k : ℕ) (w : Code) → (Ok (Back k), w) ≡ stepped s v j → c < s.rank w
-      → (r : Result Step Refusal) (u : Code) → (r, u) ≡ stepped s w k
-      → ((Ok Vacant, u) ≡ stepped (capped c s) v j) × (u ≡ v)
+  pub step_high : Lawful s → Object s v → (k : ℕ) (w : Code) → (Ok (Some k), w) ≡ stepped s v j → c < s.rank w
+      → (r : Result (Option ℕ) Refusal) (u : Code) → (r, u) ≡ stepped s w k
+      → ((Ok None, u) ≡ stepped (capped c s) v j) × (u ≡ v)
   step_high l o k w e high r u back =
-      let g = granted s v j (Back k) w e in
+      let g = granted s v j (Some k) w e in
       let f = was-filled s v j k w (s.slot v j) g.1 in
       let home = l.return_leads_back v w j k o g.0 f in
       let less = l.return_below v w j k o g.0 f in
-      let here : u ≡ v = ap (λ (p : Result Step Refusal × Code). p.1) (back ∙ below s w k less ∙ ap (into w) home) in (
-        ap (λ x. (Ok Vacant, x)) here
+      let here : u ≡ v = ap (λ (p : Result (Option ℕ) Refusal × Code). p.1) (back ∙ below s w k less ∙ ap (into w) home) in (
+        ap (λ x. (Ok None, x)) here
             ∙ ap (into v) (sym (ap (kept c s) f ∙ kept_high c s w k high)) ∙ sym (below (capped c s) v j g.0),
         here,
       )
@@ -97,20 +95,14 @@ rank_at s t u v c e f h =
     omega arith
 
 module _ (c : ℕ) (s₀ s₁ : Setup) (v : Code) (j : ℕ) (same : s₁ ≡ s₀) where
-  pub vacant_step : (u : Code) → s₀.rank v ≤ c → (Ok Vacant, u) ≡ stepped s₀ v j
-      → ((Ok Vacant, u) ≡ stepped (capped c s₀) v j) × (s₁.rank u ≤ c)
-  vacant_step u low e =
-      let p = step_vacant c s₀ v j u e in
-      (p.0, rank_at s₀ s₁ u v c same p.1 low)
-
-  pub low_step : (k : ℕ) (w : Code) → (Ok (Back k), w) ≡ stepped s₀ v j → s₁.rank w ≤ c
-      → (Ok (Back k), w) ≡ stepped (capped c s₀) v j
+  pub low_step : (k : ℕ) (w : Code) → (Ok (Some k), w) ≡ stepped s₀ v j → s₁.rank w ≤ c
+      → (Ok (Some k), w) ≡ stepped (capped c s₀) v j
   low_step k w e low = step_low c s₀ v j k w e (rank_at s₁ s₀ w w c (sym same) refl low)
 
   pub high_step : (s₂ : Setup) → s₂ ≡ s₁ → Lawful s₀ → Object s₀ v → s₀.rank v ≤ c
-      → (k : ℕ) (w : Code) → (Ok (Back k), w) ≡ stepped s₀ v j → c < s₁.rank w
-      → (r : Result Step Refusal) (u : Code) → (r, u) ≡ stepped s₁ w k
-      → ((Ok Vacant, u) ≡ stepped (capped c s₀) v j) × (s₂.rank u ≤ c)
+      → (k : ℕ) (w : Code) → (Ok (Some k), w) ≡ stepped s₀ v j → c < s₁.rank w
+      → (r : Result (Option ℕ) Refusal) (u : Code) → (r, u) ≡ stepped s₁ w k
+      → ((Ok None, u) ≡ stepped (capped c s₀) v j) × (s₂.rank u ≤ c)
   high_step s₂ kept' l o low k w e high r u back =
       let ranks = ap (λ (x : Setup). x.rank w) same in
       let p = step_high c s₀ v j l o k w e (omega arith) r u (back ∙ ap (λ (x : Setup). stepped x w k) same) in
@@ -145,7 +137,7 @@ held s v bytes buffer r long room e =
 pub high_take : (c : ℕ) (s₀ s₁ s₂ : Setup) (v : Code) (row : List ℕ) → s₁ ≡ s₀ → s₂ ≡ s₁ → Lawful s₀ → Object s₀ v → s₀.rank v ≤ c
     → (bytes buffer : List ℕ) (q : Result (Unit {0}) Refusal) → 480 ≤ length bytes → (q, buffer) ≡ written s₀ v bytes
     → (x : Unit {0}) (w : Code) → (Ok x, w) ≡ taken s₀ v row → c < s₁.rank w
-    → (n : ℕ) → n ≡ s₁.size → (r : Result (Unit {0}) Refusal) (u : Code) → (r, u) ≡ taken s₁ w (take (n - 0) buffer)
+    → (n : ℕ) → n ≡ s₁.size → (r : Result (Unit {0}) Refusal) (u : Code) → (r, u) ≡ taken s₁ w (take n buffer)
     → ((Err NotACode, u) ≡ taken (capped c s₀) v row) × (s₂.rank u ≤ c)
 unfolding by_object
 high_take c s₀ s₁ s₂ v row same kept' l o low bytes buffer q room put x w got high n size r u back =
@@ -153,11 +145,11 @@ high_take c s₀ s₁ s₂ v row same kept' l o low bytes buffer q room put x w 
     let limit = l.size_limit in
     let code = held s₀ v bytes buffer q (l.code_size v o) (omega arith) put in
     let sizes = ap (λ (t : Setup). t.size) same in
-    let front : n - 0 ≡ s₀.size = omega arith in
-    let row_back : take (n - 0) buffer ≡ v = ap (λ m. take m buffer) front ∙ code in
+    let front : n ≡ s₀.size = omega arith in
+    let row_back : take n buffer ≡ v = ap (λ m. take m buffer) front ∙ code in
     let here : u ≡ v =
     ap (λ (p : Result (Unit {0}) Refusal × Code). p.1)
-    (back ∙ ap (λ (t : Setup). taken t w (take (n - 0) buffer)) same ∙ ap (taken s₀ w) row_back ∙ ap (by_object w v) o) in
+    (back ∙ ap (λ (t : Setup). taken t w (take n buffer)) same ∙ ap (taken s₀ w) row_back ∙ ap (by_object w v) o) in
     let ranks = ap (λ (t : Setup). t.rank w) same ∙ ap s₀.rank was.1 in
     let above : leb (s₀.rank row) c ≡ false = lt-leb (s₀.rank row) c (omega arith) in (
       ap (λ y. (Err NotACode, y)) here ∙ sym (ap (by_object v row) (and_right (s₀.object row) (leb (s₀.rank row) c) above)),

@@ -2,9 +2,8 @@ ghost use Rattle.std.specs.Prelude.{◌≡◌, ◌≤◌, nat_le};
 ghost use Rattle.cap.specs.Capped.{capped};
 ghost use Rattle.cap.specs.Laws.{cap_lawful, object_from};
 
-use oracle::coded::Coded;
+use oracle::coded::{Coded, MOST_SIZE};
 use oracle::home::go_home;
-use oracle::step::Step;
 use oracle::walking::Walking;
 use refusals::Refusal;
 
@@ -17,13 +16,12 @@ pub struct Cap<O> {
 
 impl<O: Walking> Cap<O> {
     // Steps the oracle below home, and stands at its root.
-    pub fn new(below: O, most: u32) -> Cap<O>
+    pub fn new(mut below: O, most: u32) -> Cap<O>
         requires { O.Walking.sound below }
         ensures sound { O.Walking.sound result.below × ((O.Walking.setup result.below).rank (O.Walking.current result.below) ≤ result.most) }
         ensures setup { capped result.most (O.Walking.setup result.below) ≡ capped most (O.Walking.setup below) }
         ensures root { O.Walking.current result.below ≡ (O.Walking.setup below).root }
     {
-        let mut below = below;
         go_home(&mut below);
         Cap { below, most }
     }
@@ -33,8 +31,7 @@ impl<O: Walking> Cap<O> {
         requires { O.Walking.sound self.now.below }
         ensures { result ≡ nat_le ((O.Walking.setup self.now.below).rank (O.Walking.current self.now.below)) self.now.most }
     {
-        let rank = self.below.rank();
-        rank <= self.most
+        self.below.rank() <= self.most
     }
 }
 
@@ -66,20 +63,15 @@ impl<O: Walking> Walking for Cap<O> {
     }
 
     // A neighbour above the cap is left again, and its slot told as vacant.
-    fn step(&mut self, slot: usize) -> Result<Step, Refusal> {
-        match self.below.step(slot) {
-            Err(refusal) => Err(refusal),
-            Ok(step) => match step {
-                Step::Vacant => Ok(Step::Vacant),
-                Step::Back(back) => {
-                    if self.allows() {
-                        return Ok(Step::Back(back));
-                    }
-                    let _ = self.below.step(back);
-                    Ok(Step::Vacant)
-                }
-            },
+    fn step(&mut self, slot: usize) -> Result<Option<usize>, Refusal> {
+        let Some(back) = self.below.step(slot)? else {
+            return Ok(None);
+        };
+        if self.allows() {
+            return Ok(Some(back));
         }
+        let _ = self.below.step(back);
+        Ok(None)
     }
 }
 
@@ -94,19 +86,14 @@ impl<O: Coded> Coded for Cap<O> {
 
     // An object above the cap is left again for the one that was held.
     fn take(&mut self, row: &[u8]) -> Result<(), Refusal> {
-        let mut held = [0u8; 480];
+        // no heap: a code is held in memory of a fixed size, with its size beside it
+        let mut held = [0u8; MOST_SIZE];
         let _ = self.below.put(&mut held);
-        match self.below.take(row) {
-            Err(refusal) => Err(refusal),
-            Ok(()) => {
-                let allowed = self.allows();
-                if allowed {
-                    return Ok(());
-                }
-                let size = self.below.size();
-                let _ = self.below.take(&held[0..size]);
-                Err(Refusal::NotACode)
-            }
+        self.below.take(row)?;
+        if self.allows() {
+            return Ok(());
         }
+        let _ = self.below.take(&held[..self.below.size()]);
+        Err(Refusal::NotACode)
     }
 }

@@ -55,7 +55,7 @@ mod tests {
         assert_eq!(rt; path.take(&[3]), Err(Refusal::NotACode));
         let mut code = [9u8; 2];
         path.put(&mut code)?;
-        assert!(rt; code[0] == 1 && code[1] == 9);
+        assert_eq!(rt; code, [1, 9]);
         Ok(())
     }
 }

@@ -1,17 +1,13 @@
 //! Reads a sheet from standard input and prints the objects that it asks for, or its fault.
 #![tactic(auto)]
 
-use anyhow::anyhow;
 use cap::Cap;
 use oracle::coded::Coded;
 use pages::pager::Pager;
 use polygon::Polygon;
 use regions::Regions;
-use sheets::{Plan, Subject};
-use std::io::{BufWriter, Read, Write};
-
-// One byte more than a sheet may have decides that it is too long.
-const ENOUGH: u64 = 65_537;
+use sheets::{Plan, Subject, read_sheet, sheet_bytes};
+use std::io::{BufWriter, Write};
 
 // Lines that are handed on at a time; the writer behind them gathers what it is given.
 const PAGE: usize = 2;
@@ -34,32 +30,23 @@ fn print<O: Coded + Drop>(rt: &HostRuntime, oracle: O, most: u32) -> anyhow::Res
     }
 }
 
+// Each kind of subject has an oracle of its own type. One place for this choice and those of printouts
+// needs a trait with a generic method, and a struct with an impl for each use.
 fn print_plan(rt: &HostRuntime, plan: Plan) -> anyhow::Result<()> {
     match plan.subject {
         Subject::Regions(map) => print(rt, Cap::new(Regions::new(&map), plan.cap), plan.most),
-        Subject::Polygon(n) => {
-            // a plan's polygon has 3 to 24 corners, so that there is one
-            let Ok(polygon) = Polygon::new(n) else {
-                return Err(anyhow!("the corners are out of range"));
-            };
-            print(rt, Cap::new(polygon, plan.cap), plan.most)
-        }
+        Subject::Polygon(n) => { print(rt, Cap::new(Polygon::new(n)?, plan.cap), plan.most) }
     }
 }
 
-fn run(rt: &HostRuntime) -> anyhow::Result<()> {
-    let mut bytes = Vec::new(rt.alloc());
-    rt.stdin().take(ENOUGH).read_to_end(&mut bytes)?;
-    match sheets::read_sheet(bytes.as_slice()) {
-        Ok(plan) => print_plan(rt, plan),
+fn main(rt: HostRuntime) -> anyhow::Result<()> {
+    let bytes = sheet_bytes(rt.alloc(), rt.stdin())?;
+    match read_sheet(bytes.as_slice()) {
+        Ok(plan) => print_plan(&rt, plan),
         Err(fault) => {
             let line = reports::fault_line(rt.alloc(), &fault)?;
             rt.stdout().write_all(line.as_bytes())?;
             Ok(())
         }
     }
-}
-
-fn main(rt: HostRuntime) -> anyhow::Result<()> {
-    run(&rt)
 }

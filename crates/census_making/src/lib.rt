@@ -2,15 +2,15 @@
 #![tactic(auto)]
 
 ghost use Rattle.std.specs.Prelude.{◌≡◌};
-ghost use Rattle.engine.specs.View.{shown, begun};
-ghost use Rattle.tiny_path.specs.Setup.{code, path};
+ghost use Rattle.engine.specs.View.{begun};
+ghost use Rattle.tiny_path.specs.Setup.{path};
 
 use engine::census::Census;
 use tiny_path::TinyPath;
 
 // A census of the tiny path, at its first object.
 pub fn path_census() -> Census<TinyPath>
-    ensures { shown (λ _. path) (λ x. code x.at) result ≡ begun path }
+    ensures { result.view ≡ begun path }
 {
     Census::new(TinyPath::new())
 }

@@ -10,10 +10,6 @@ pub chain_within : {t : List ℕ} {g : ℕ} (s : ℕ) {i j : ℕ} → Within g s
 chain_within {g = g} s w (here {i = i} m) = here (member_within g s i w m)
 chain_within {g = g} s w (onward {k = k} c e m) = onward (chain_within s w c) e (member_within g s k w m)
 
-pub chain_first : {t : List ℕ} {s i j : ℕ} → Chain t s i j → Member s i
-chain_first (here m) = m
-chain_first (onward c e m) = chain_first c
-
 pub chain_last : {t : List ℕ} {s i j : ℕ} → Chain t s i j → Member s j
 chain_last (here m) = m
 chain_last (onward c e m) = m

@@ -1,11 +1,11 @@
 -- Laws of a number's binary digits. Assumes nothing.
-use Rattle.std.proofs.Common.{◌≡◌, ℕ, zero, suc, ◌+◌, ◌-◌, ◌/◌, ◌%◌, ◌^◌, ◌<◌, ◌≤◌, min, max, false, eqb, ltb, ◌≢◌, ◌⊎◌, sym, refl, ap, ◌∙◌, ap₂, inl, inr, lt_of_lt_of_le, mod-lt, pow-suc, one-add, arith, pow_pos, pow_mono, pow-add, shr-shr}
+use Rattle.std.proofs.Common.{◌≡◌, ℕ, zero, suc, ◌+◌, ◌-◌, ◌/◌, ◌%◌, ◌^◌, ◌<◌, ◌≤◌, min, max, false, cond, eqb, ltb, ◌≢◌, ◌⊎◌, sym, refl, ap, ◌∙◌, ap₂, inl, inr, lt_of_lt_of_le, mod-lt, pow-suc, one-add, arith, pow_pos, pow_mono, pow-add, shr-shr}
 use native.Mathlib.Nat.{div-eq_of_lt, div_self}
 use lib.Arith.{lt-one}
 use lib.Bits.{bit_and, bit_or, bit_xor, and_step, or_step, xor_add_and, xor_assoc, xor_self, xor_zero_r, and_self, and_shr, or_shr, xor_shr, or_lt, xor_lt, and_mask}
 use lib.Count.{ones, ones_step, count_trailing_zeros, under}
 use lib.Pow.{pow-lt, shl-shr, field, mod-mod-pow}
-use Rattle.std.proofs.lemmas.Bool.{cases_lt, cases_eq, cond-true, lt-ltb, eqb-false}
+use Rattle.std.proofs.lemmas.Bool.{cases_lt, cases_eq, cond-true, cond-false, lt-ltb, le-ltb, eqb-false}
 use Rattle.digits.specs.Bits.{bit, count, with_digit, flip_digit}
 
 -- ---- one digit
@@ -41,6 +41,14 @@ bit_zero i = bit_past i 0 i (pow_pos i) (omega arith)
 pub bit_test : (s i : ℕ) → bit_and (s / 2 ^ i) 1 ≡ bit s i
 unfolding bit
 bit_test s i = and_mask (s / 2 ^ i) 1
+
+-- the same of a shift by any number of places, which gives 0 past the last
+pub bit_test_any : (s i : ℕ) → s < 2 ^ 64 → bit_and (cond (ltb i 64) (s / 2 ^ i) 0) 1 ≡ bit s i
+bit_test_any s i h = go (cases_lt i 64)
+  where
+    go : (i < 64) ⊎ (64 ≤ i) → bit_and (cond (ltb i 64) (s / 2 ^ i) 0) 1 ≡ bit s i
+    go (inl l) = ap (λ (x : ℕ). bit_and x 1) (cond-true (ltb i 64) (s / 2 ^ i) 0 (lt-ltb i 64 l)) ∙ bit_test s i
+    go (inr l) = ap (λ (x : ℕ). bit_and x 1) (cond-false (ltb i 64) (s / 2 ^ i) 0 (le-ltb i 64 l)) ∙ sym (bit_past 64 s i h l)
 
 -- the digits after the first are those of the half
 half_lt : (k s : ℕ) → s < 2 ^ suc k → s / 2 < 2 ^ k

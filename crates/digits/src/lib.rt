@@ -8,7 +8,7 @@ ghost use Rattle.digits.specs.Bits.{bit, with_digit, flip_digit};
 fn digit(s: u64, i: u32) -> u64
     ensures { result ≡ bit s i }
 {
-    if i < 64 { (s >> i) & 1 } else { 0 }
+    s.unbounded_shr(i) & 1
 }
 
 // Whether digit i of s is 1.
@@ -22,12 +22,12 @@ pub fn has(s: u64, i: u32) -> bool
 pub fn with(s: u64, i: u32) -> u64
     ensures { result ≡ with_digit s i }
 {
-    if i < 64 { s | (1u64 << i) } else { s }
+    s | 1u64.unbounded_shl(i)
 }
 
 // s with digit i turned from 0 to 1 or from 1 to 0; past 63 there is none to turn.
 pub fn flip(s: u64, i: u32) -> u64
     ensures { result ≡ flip_digit s i }
 {
-    if i < 64 { s ^ (1u64 << i) } else { s }
+    s ^ 1u64.unbounded_shl(i)
 }

@@ -7,13 +7,15 @@ use Rattle.oracle.specs.Laws.{Object, Lawful}
 use Rattle.oracle.specs.Places.{at, place}
 use Rattle.oracle.specs.Setup.{Code, Setup}
 use Rattle.oracle.specs.Walk.{Spot, on, past, walk}
+use Rattle.oracle.specs.declared.walking.Walking.{Ghosts}
 use Rattle.engine.proofs.Standings.{spot_at, stand_at, stand_first, stand_past}
 use Rattle.engine.specs.Places.{rank_at, next_from}
 use Rattle.engine.specs.Plain.{plain_next}
 use Rattle.engine.specs.Stand.{Stand, standing_at, stand_of}
 use Rattle.engine.specs.States.{spot_of, advanced, next_state, next_booked}
 use Rattle.engine.specs.Tallies.{cleared, booked, booked_from}
-use Rattle.engine.specs.View.{View, begun}
+use Rattle.engine.specs.View.{View, shown, begun}
+use Rattle.engine.specs.declared.census.tour.Tour.{Tour}
 use Rattle.engine.specs.declared.rest.Rest.{Rest}
 use Rattle.engine.specs.declared.rest.Rest.TheVariants.{Standing, Past}
 use Rattle.engine.specs.declared.tally.Tally.{Tally}
@@ -51,9 +53,14 @@ module _ (s : Setup) (law : Lawful s) (v : Code) (o : Object s v) (t : Tally) wh
       ap (λ q. (Ok (advanced s q).0, view s (advanced s q).1 (advanced s q).2 (booked q (walk s v).steps t))) stops
       ∙ ap (λ a. (a.0, record { stand = a.1; tally = booked spot (walk s v).steps t })) (landed spot refl)
 
-  pub next_moves : (rest after : Rest) (now : Setup) (r : Result (Option ℕ) Refusal) (w : Code) (u : Tally) → now ≡ s → (r, after, w) ≡ next_state s rest v → u ≡ next_booked s rest v t → (r, view now after w u) ≡ plain_next s (view s rest v t)
-  next_moves rest after now r w u same moved counts =
-      ap₂ (λ n a. (a.0, view n a.1 a.2 u)) same moved
-      ∙ ap (λ x. ((next_state s rest v).0, view s (next_state s rest v).1 (next_state s rest v).2 x)) counts
-      ∙ next-at rest
-      ∙ sym (ap (went (stand_of s rest v)) (spot_at s law rest v o))
+-- a next of a census
+pub next_moves : {D : Type 0} (W : Ghosts D) (tour after : Tour D) (r : Result (Option ℕ) Refusal) → W.sound tour.oracle → W.setup after.oracle ≡ W.setup tour.oracle → (r, after.rest, W.current after.oracle) ≡ next_state (W.setup tour.oracle) tour.rest (W.current tour.oracle) → after.tally ≡ next_booked (W.setup tour.oracle) tour.rest (W.current tour.oracle) tour.tally → (r, shown W.setup W.current after) ≡ plain_next (W.setup tour.oracle) (shown W.setup W.current tour)
+next_moves W tour after r sound same moved counts =
+    let s = W.setup tour.oracle in
+    let v = W.current tour.oracle in
+    let law = W.lawful tour.oracle sound in
+    let o = W.stands tour.oracle sound in
+    ap₂ (λ n a. (a.0, view n a.1 a.2 after.tally)) same moved
+    ∙ ap (λ x. ((next_state s tour.rest v).0, view s (next_state s tour.rest v).1 (next_state s tour.rest v).2 x)) counts
+    ∙ next-at s law v o tour.tally tour.rest
+    ∙ sym (ap (went s law v o tour.tally (stand_of s tour.rest v)) (spot_at s law tour.rest v o))

@@ -6,6 +6,7 @@ use Rattle.oracle.proofs.Complete.{complete}
 use Rattle.oracle.specs.Laws.{Object, Lawful}
 use Rattle.oracle.specs.Places.{place}
 use Rattle.oracle.specs.Setup.{Code, Setup}
+use Rattle.oracle.specs.declared.walking.Walking.{Ghosts}
 use Rattle.marks.proofs.RoundTrip.{block_length, round_trip}
 use Rattle.marks.specs.Layout.{block, placed}
 use Rattle.marks.specs.Opening.{opened, moved_to}
@@ -17,7 +18,8 @@ use Rattle.engine.specs.Stand.{standing_at, stand_of}
 use Rattle.engine.specs.States.{spot_of, rest_after, tally_after}
 use Rattle.engine.specs.Tallies as tallies
 use Rattle.engine.specs.Tallies.{cleared}
-use Rattle.engine.specs.View.{View}
+use Rattle.engine.specs.View.{View, shown}
+use Rattle.engine.specs.declared.census.tour.Tour.{Tour}
 use Rattle.engine.specs.declared.rest.Rest.{Rest}
 use Rattle.engine.specs.declared.rest.Rest.TheVariants.{Standing, Past}
 use Rattle.engine.specs.declared.tally.Tally.{Tally}
@@ -35,11 +37,15 @@ module _ (s : Setup) (law : Lawful s) (rest : Rest) (v : Code) (t : Tally) where
   resume-moves (Err e) (Ok u) w o p = let h = ap (λ x. x.0) p in let z : ◌≡◌ {A = ℕ} 0 1 = cc in absurd (omega arith)
   resume-moves (Ok x) (Err f) w o p = let h = ap (λ x. x.0) p in let z : ◌≡◌ {A = ℕ} 0 1 = cc in absurd (omega arith)
 
-  pub resumes : (job : ℕ) (block : List ℕ) (after : Rest) (now : Setup) (r : Result (Unit {0}) Refusal) (w : Code) (u : Tally) → Object now w → now ≡ s → after ≡ rest_after r rest → u ≡ tally_after r t → (r, w) ≡ moved_to v (opened job s block) → (r, view now after w u) ≡ plain_resume job s (view s rest v t) block
-  resumes job block after now r w u o same rests clears p =
-      ap₂ (λ n a. (r, view n a w u)) same rests
-      ∙ ap (λ x. (r, view s (rest_after r rest) w x)) clears
-      ∙ resume-moves (opened job s block) r w (subst (λ n. Object n w) same o) p
+-- a resume of a census
+pub resumes : {D : Type 0} (W : Ghosts D) (tour after : Tour D) (job : ℕ) (block : List ℕ) (r : Result (Unit {0}) Refusal) → W.sound tour.oracle → W.sound after.oracle → W.setup after.oracle ≡ W.setup tour.oracle → after.rest ≡ rest_after r tour.rest → after.tally ≡ tally_after r tour.tally → (r, W.current after.oracle) ≡ moved_to (W.current tour.oracle) (opened job (W.setup tour.oracle) block) → (r, shown W.setup W.current after) ≡ plain_resume job (W.setup tour.oracle) (shown W.setup W.current tour) block
+resumes W tour after job block r sound kept same rests clears moved =
+    let s = W.setup tour.oracle in
+    let w = W.current after.oracle in
+    let o = subst (λ n. Object n w) same (W.stands after.oracle kept) in
+    ap₂ (λ n a. (r, view n a w after.tally)) same rests
+    ∙ ap (λ x. (r, view s (rest_after r tour.rest) w x)) clears
+    ∙ resume-moves s (W.lawful tour.oracle sound) tour.rest (W.current tour.oracle) tour.tally (opened job s block) r w o moved
 
 module _ (job : ℕ) (s : Setup) (law : Lawful s) (v : Code) (o : Object s v) (fits : job < 4294967296) where
   -- a granted save wrote the block to the front
@@ -55,7 +61,23 @@ module _ (job : ℕ) (s : Setup) (law : Lawful s) (v : Code) (o : Object s v) (f
       ∙ ap (resumed s w) (round_trip s law v o job fits)
       ∙ sym (ap (λ st. (Ok tt, record { stand = st; tally = cleared })) (stand_at s law (place s v) v ((complete s law).at_its_place v o)))
 
-  pub opens_again : (rest : Rest) (t : Tally) (r : Result (Unit {0}) Refusal) (bytes out : List ℕ) → (r, out) ≡ save_from job s bytes (spot_of rest v) → OpensAgain job s (view s rest v t) r out
-  opens_again rest t (Err f) bytes out p = tt
-  opens_again Past t (Ok u) bytes out p = let h = ap (λ x. x.0) p in let z : ◌≡◌ {A = ℕ} 0 1 = cc in absurd (omega arith)
-  opens_again Standing t (Ok u) bytes out p = reopened out (saved-front (ltb (length bytes) 512) u bytes out p)
+-- a save of a census
+pub opens_again : {D : Type 0} (W : Ghosts D) (tour : Tour D) (job : ℕ) (r : Result (Unit {0}) Refusal) (bytes out : List ℕ) → W.sound tour.oracle → job < 4294967296 → (r, out) ≡ save_from job (W.setup tour.oracle) bytes (spot_of tour.rest (W.current tour.oracle)) → OpensAgain job (W.setup tour.oracle) (shown W.setup W.current tour) r out
+opens_again W tour job r bytes out sound fits e = go tour.rest r e
+  where
+    s : Setup
+    s = W.setup tour.oracle
+
+    v : Code
+    v = W.current tour.oracle
+
+    law : Lawful s
+    law = W.lawful tour.oracle sound
+
+    o : Object s v
+    o = W.stands tour.oracle sound
+
+    go : (rest : Rest) (q : Result (Unit {0}) Refusal) → (q, out) ≡ save_from job s bytes (spot_of rest v) → OpensAgain job s (view s rest v tour.tally) q out
+    go rest (Err f) p = tt
+    go Past (Ok u) p = let h = ap (λ x. x.0) p in let z : ◌≡◌ {A = ℕ} 0 1 = cc in absurd (omega arith)
+    go Standing (Ok u) p = reopened job s law v o fits out (saved-front job s law v o fits (ltb (length bytes) 512) u bytes out p)

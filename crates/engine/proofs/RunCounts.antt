@@ -24,9 +24,9 @@ use Rattle.engine.specs.declared.tally.Tally.{Tally}
 CountedFrom : Setup → Bool → List Entry → Type 0
 CountedFrom s whole [] = Unit {0}
 CountedFrom s whole (e ∷ es) =
-    (whole ≡ true → e.act ≡ Next → e.answer ≡ End → e.tally ≡ whole_tally s) × CountedFrom s (unresumed_after whole e.act e.answer) es
+    (whole ≡ true → e.act ≡ Next → e.answer ≡ Ok End → e.tally ≡ whole_tally s) × CountedFrom s (unresumed_after whole e.act e.answer) es
 
-split : (s : Setup) (whole : Bool) (before after : List Entry) (e : Entry) → CountedFrom s whole (before ++ (e ∷ after)) → e.act ≡ Next → e.answer ≡ End → unresumed whole before ≡ true → e.tally ≡ whole_tally s
+split : (s : Setup) (whole : Bool) (before after : List Entry) (e : Entry) → CountedFrom s whole (before ++ (e ∷ after)) → e.act ≡ Next → e.answer ≡ Ok End → unresumed whole before ≡ true → e.tally ≡ whole_tally s
 unfolding CountedFrom unresumed
 split s whole [] after e h a r u = h.0 u a r
 split s whole (x ∷ xs) after e h a r u =
@@ -39,11 +39,11 @@ module _ (s : Setup) (law : Lawful s) where
   next-kept here t h (on w) e = next_tallied s law here.place t w e h (at s (here.place + 1)) refl
 
   -- a next that answers the end leaves the whole tally
-  next-ends : (here : Stand) (t : Tally) → Tallied s here.place t → (spot : Spot) → at s here.place ≡ spot → found (places.next_from s here spot).0 ≡ End → tallies.booked_from s here.place t spot ≡ whole_tally s
+  next-ends : (here : Stand) (t : Tally) → Tallied s here.place t → (spot : Spot) → at s here.place ≡ spot → found (places.next_from s here spot).0 ≡ Ok End → tallies.booked_from s here.place t spot ≡ whole_tally s
   next-ends here t h past e a = let z : ◌≡◌ {A = ℕ} 0 1 = cc in absurd (omega arith)
   next-ends here t h (on w) e a = go (at s (here.place + 1)) refl a
     where
-      go : (there : Spot) → at s (here.place + 1) ≡ there → found (Ok (places.rank_at s there)) ≡ End → booked there (made s w) t ≡ whole_tally s
+      go : (there : Spot) → at s (here.place + 1) ≡ there → found (Ok (places.rank_at s there)) ≡ Ok End → booked there (made s w) t ≡ whole_tally s
       go (on x) f b = let z : ◌≡◌ {A = ℕ} 0 1 = cc in absurd (omega arith)
       go past f b = past_whole s law (here.place + 1) (booked past (made s w) t) (next_tallied s law here.place t w e h past f) f
 
@@ -64,7 +64,7 @@ module _ (s : Setup) (law : Lawful s) where
   act-kept v whole k (Resume job) bytes = resume-kept v whole k (opened job s bytes)
   act-kept v whole k TallyAct bytes = k
 
-  act-ends : (v : View) (act : Act) (bytes : List ℕ) → Tallied s v.stand.place v.tally → act ≡ Next → (plain_act s v act bytes).0 ≡ End → (plain_act s v act bytes).2.tally ≡ whole_tally s
+  act-ends : (v : View) (act : Act) (bytes : List ℕ) → Tallied s v.stand.place v.tally → act ≡ Next → (plain_act s v act bytes).0 ≡ Ok End → (plain_act s v act bytes).2.tally ≡ whole_tally s
   act-ends v act bytes h e a =
       ap (λ x. (plain_act s v x bytes).2.tally) e
       ∙ next-ends v.stand v.tally h (at s v.stand.place) refl (sym (ap (λ x. (plain_act s v x bytes).0) e) ∙ a)

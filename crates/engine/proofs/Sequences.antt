@@ -5,10 +5,10 @@ use Rattle.oracle.specs.Setup.{Setup}
 use Rattle.oracle.specs.declared.walking.Walking.{Ghosts}
 use Rattle.engine.specs.Acts.{plain_act}
 use Rattle.engine.specs.Runs.{Order, Entry, order_of, entry_of, noted, plain_run}
-use Rattle.engine.specs.View.{View, shown}
+use Rattle.engine.specs.Seen.{Seen}
+use Rattle.engine.specs.View.{View}
 use Rattle.engine.specs.declared.act.Act.{Act}
 use Rattle.engine.specs.declared.call.Call.{Call}
-use Rattle.engine.specs.declared.census.Census.{Census}
 use Rattle.engine.specs.declared.tally.Tally.{Tally}
 
 -- The entries of the first i calls, and what the plain census gives for the others from view v on.
@@ -18,10 +18,9 @@ joined_run s v calls i =
     (map entry_of (take i calls) ++ rest.0, rest.1)
 
 -- i calls are carried out, and the plain census is in step.
-pub record Running (D : Type 0) (W : Ghosts D) (start census : Census D) (asked calls : List Call) (i : ℕ) : Type 0 where
-  pub sound_now : W.sound census.oracle
+pub record Running (D : Type 0) (W : Ghosts D) (start census : Seen D) (asked calls : List Call) (i : ℕ) : Type 0 where
   pub setup_same : W.setup census.oracle ≡ W.setup start.oracle
-  pub in_step : joined_run (W.setup start.oracle) (shown W.setup W.current census) calls i ≡ plain_run (W.setup start.oracle) (shown W.setup W.current start) (map order_of asked)
+  pub in_step : joined_run (W.setup start.oracle) census.view calls i ≡ plain_run (W.setup start.oracle) start.view (map order_of asked)
 
 -- the i-th call carried out
 pub one_more : (s : Setup) (v after : View) (calls : List Call) (i : ℕ) (d new : Call) → i < length calls → new.act ≡ (get_or calls i d).act → new.tally ≡ after.tally → (new.answer, vec_items new.bytes, after) ≡ plain_act s v (get_or calls i d).act (vec_items (get_or calls i d).bytes) → joined_run s after (set calls i new) (i + 1) ≡ joined_run s v calls i

@@ -6,8 +6,11 @@ use Rattle.oracle.specs.Laws.{Object, Lawful}
 use Rattle.oracle.specs.Places.{at, objects}
 use Rattle.oracle.specs.Setup.{Code, Setup}
 use Rattle.oracle.specs.Walk.{on, past}
-use Rattle.engine.specs.Stand.{object_at, standing_at, stand_of}
+use Rattle.oracle.specs.declared.walking.Walking.{Ghosts}
+use Rattle.engine.specs.Stand.{Placed, object_at, standing_at, stand_of}
 use Rattle.engine.specs.States.{spot_of}
+use Rattle.engine.specs.View.{shown}
+use Rattle.engine.specs.declared.census.tour.Tour.{Tour}
 use Rattle.engine.specs.declared.rest.Rest.{Rest}
 use Rattle.engine.specs.declared.rest.Rest.TheVariants.{Standing, Past}
 
@@ -37,3 +40,32 @@ module _ (s : Setup) (law : Lawful s) where
           let z : ◌≡◌ {A = ℕ} 0 1 = cc in
           absurd (omega arith)
       last (inr ge) = omega arith
+
+-- what stands at the place of a census
+pub spot_of_tour : {D : Type 0} (W : Ghosts D) (tour : Tour D) → W.sound tour.oracle → at (W.setup tour.oracle) (shown W.setup W.current tour).stand.place ≡ spot_of tour.rest (W.current tour.oracle)
+spot_of_tour W tour sound =
+    let o = tour.oracle in
+    spot_at (W.setup o) (W.lawful o sound) tour.rest (W.current o) (W.stands o sound)
+
+pub placed : {D : Type 0} (W : Ghosts D) (tour : Tour D) → W.sound tour.oracle → Placed (W.setup tour.oracle) (shown W.setup W.current tour).stand
+placed W tour sound = go tour.rest
+  where
+    s : Setup
+    s = W.setup tour.oracle
+
+    v : Code
+    v = W.current tour.oracle
+
+    law : Lawful s
+    law = W.lawful tour.oracle sound
+
+    o : Object s v
+    o = W.stands tour.oracle sound
+
+    go : (rest : Rest) → Placed s (stand_of s rest v)
+    go Standing =
+        let all = complete s law in
+        let from = all.place_from v o in
+        let upto = all.place_upto v o in
+        record { lawful = law; object = o; from = from; upto = omega arith; current = λ _. all.at_its_place v o }
+    go Past = record { lawful = law; object = o; from = omega arith; upto = omega arith; current = λ le. absurd (omega arith) }

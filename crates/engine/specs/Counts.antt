@@ -1,5 +1,6 @@
 -- What the tally says at the end of the list.
-use Rattle.std.specs.Prelude.{◌≡◌, ◌+◌, ◌*◌, Bool, true, false, List, [], ◌∷◌, ◌++◌}
+use Rattle.std.specs.Prelude.{◌≡◌, ◌+◌, ◌*◌, Bool, true, false, List, [], ◌∷◌, ◌++◌, Ok, Err, Result}
+use Rattle.refusals.specs.declared.Refusal.{Refusal}
 use Rattle.oracle.specs.Outcomes.{counted}
 use Rattle.oracle.specs.Places.{objects, filled_slots}
 use Rattle.oracle.specs.Setup.{Setup}
@@ -7,19 +8,19 @@ use Rattle.engine.specs.Runs.{Entry}
 use Rattle.engine.specs.declared.act.Act.{Act}
 use Rattle.engine.specs.declared.act.Act.TheVariants.{Next, Restart, Read, Save, Resume, Tally as TallyAct}
 use Rattle.engine.specs.declared.act.Answer.{Answer}
-use Rattle.engine.specs.declared.act.Answer.TheVariants.{Rank, End, Done, Counts, Refused}
+use Rattle.engine.specs.declared.act.Answer.TheVariants.{Rank, End, Done, Counts}
 use Rattle.engine.specs.declared.tally.Tally.{Tally}
 
 -- Whether no resume was granted since the last restart, after a resume with this answer.
-abbrev pub unless_granted : Bool → Answer → Bool
-unless_granted whole Done = false
-unless_granted whole (Rank r) = whole
-unless_granted whole End = whole
-unless_granted whole (Counts t) = whole
-unless_granted whole (Refused e) = whole
+abbrev pub unless_granted : Bool → Result Answer Refusal → Bool
+unless_granted whole (Ok Done) = false
+unless_granted whole (Ok (Rank r)) = whole
+unless_granted whole (Ok End) = whole
+unless_granted whole (Ok (Counts t)) = whole
+unless_granted whole (Err e) = whole
 
 -- The same, after any act.
-abbrev pub unresumed_after : Bool → Act → Answer → Bool
+abbrev pub unresumed_after : Bool → Act → Result Answer Refusal → Bool
 unresumed_after whole Restart a = true
 unresumed_after whole (Resume job) a = unless_granted whole a
 unresumed_after whole Next a = whole
@@ -41,4 +42,4 @@ whole_tally s =
 -- since the beginning, the tally is that of the whole list.
 abbrev pub Counted : Setup → List Entry → Type 0
 Counted s entries =
-    (before after : List Entry) (e : Entry) → entries ≡ before ++ (e ∷ after) → e.act ≡ Next → e.answer ≡ End → unresumed true before ≡ true → e.tally ≡ whole_tally s
+    (before after : List Entry) (e : Entry) → entries ≡ before ++ (e ∷ after) → e.act ≡ Next → e.answer ≡ Ok End → unresumed true before ≡ true → e.tally ≡ whole_tally s

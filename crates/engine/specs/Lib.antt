@@ -2,6 +2,7 @@ pub mod Stand
 pub mod Places
 pub mod Tallies
 pub mod View
+pub mod Seen
 pub mod Plain
 pub mod States
 pub mod Acts

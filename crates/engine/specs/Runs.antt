@@ -1,5 +1,6 @@
 -- Lists of acts carried out by the plain census, one after another.
-use Rattle.std.specs.Prelude.{ℕ, List, [], ◌∷◌, vec_items}
+use Rattle.std.specs.Prelude.{ℕ, List, [], ◌∷◌, vec_items, Result}
+use Rattle.refusals.specs.declared.Refusal.{Refusal}
 use Rattle.oracle.specs.Setup.{Setup}
 use Rattle.engine.specs.Acts.{plain_act}
 use Rattle.engine.specs.View.{View}
@@ -17,7 +18,7 @@ pub record Order : Type 0 where
 pub record Entry : Type 0 where
   pub act : Act
   pub bytes : List ℕ
-  pub answer : Answer
+  pub answer : Result Answer Refusal
   pub tally : Tally
 
 abbrev pub order_of : Call → Order
@@ -28,7 +29,7 @@ entry_of call =
     record { act = call.act; bytes = vec_items call.bytes; answer = call.answer; tally = call.tally }
 
 -- What is written down of an act, and the view after it.
-abbrev pub noted : Act → Answer × List ℕ × View → Entry
+abbrev pub noted : Act → Result Answer Refusal × List ℕ × View → Entry
 noted act r = record { act = act; bytes = r.1; answer = r.0; tally = r.2.tally }
 
 unfoldable pub plain_run : Setup → View → List Order → List Entry × View

@@ -1,5 +1,6 @@
 -- Where a census stands.
-use Rattle.std.specs.Prelude.{ℕ, ◌+◌}
+use Rattle.std.specs.Prelude.{◌≡◌, ℕ, ◌+◌, ◌≤◌}
+use Rattle.oracle.specs.Laws.{Object, Lawful}
 use Rattle.oracle.specs.Places.{at, place, objects}
 use Rattle.oracle.specs.Setup.{Code, Setup}
 use Rattle.oracle.specs.Walk.{Spot, on, past}
@@ -25,3 +26,12 @@ standing_at s p = record { current = object_at s (at s p); place = p }
 abbrev pub stand_of : Setup → Rest → Code → Stand
 stand_of s Standing v = record { current = v; place = place s v }
 stand_of s Past v = record { current = v; place = objects s + 1 }
+
+-- What holds wherever a census stands: its set-up is lawful, and its place is one of the list, with
+-- the current object there, or the one past the end.
+pub record Placed (s : Setup) (here : Stand) : Type 0 where
+  pub lawful : Lawful s
+  pub object : Object s here.current
+  pub from : 1 ≤ here.place
+  pub upto : here.place ≤ objects s + 1
+  pub current : here.place ≤ objects s → at s here.place ≡ on here.current

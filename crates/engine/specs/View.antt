@@ -2,7 +2,7 @@
 use Rattle.oracle.specs.Setup.{Code, Setup}
 use Rattle.engine.specs.Stand.{Stand, standing_at, stand_of}
 use Rattle.engine.specs.Tallies.{cleared}
-use Rattle.engine.specs.declared.census.Census.{Census}
+use Rattle.engine.specs.declared.census.tour.Tour.{Tour}
 use Rattle.engine.specs.declared.tally.Tally.{Tally}
 
 pub record View : Type 0 where
@@ -10,7 +10,7 @@ pub record View : Type 0 where
   pub tally : Tally
 
 -- The place is computed from the oracle's own current object.
-abbrev pub shown : {O : Type 0} → (O → Setup) → (O → Code) → Census O → View
+abbrev pub shown : {O : Type 0} → (O → Setup) → (O → Code) → Tour O → View
 shown setup current census =
     record {
       stand = stand_of (setup census.oracle) census.rest (current census.oracle);

@@ -1,9 +1,8 @@
 //! The acts of a census as values, and what they answer.
 use crate::tally::Tally;
-use refusals::Refusal;
 
 // Read and save write to a buffer, and resume reads one; save and resume are given a job number.
-#[derive(Clone, Copy)]
+#[derive(Clone, Copy, PartialEq, Eq, Debug)]
 pub enum Act {
     Next,
     Restart,
@@ -13,12 +12,11 @@ pub enum Act {
     Tally,
 }
 
-// The rank that next answers, or the end; the counts that tally answers; else done, or a refusal.
-#[derive(Clone, Copy)]
+// What an act that is granted answers: next the rank or the end, tally the counts, the others that they are done.
+#[derive(Clone, Copy, PartialEq, Eq, Debug)]
 pub enum Answer {
     Rank(u32),
     End,
     Done,
     Counts(Tally),
-    Refused(Refusal),
 }

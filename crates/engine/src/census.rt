@@ -1,119 +1,26 @@
-//! A census: an oracle, where it rests, and a tally; and what each act does to them.
+//! A census, and what its contracts see of it.
 mod acts;
 mod codes;
 mod perform;
+mod tour;
 
-ghost use Rattle.std.specs.Prelude.{◌≡◌};
-ghost use Rattle.marks.specs.Opening.{moved_to, opened};
-ghost use Rattle.oracle.specs.Walk.{walk};
-ghost use Rattle.engine.specs.declared.rest.Rest.TheVariants.{Standing};
-ghost use Rattle.engine.specs.Places.{read_from, save_from};
-ghost use Rattle.engine.specs.States.{advanced, next_booked, next_state, rest_after, spot_of, tally_after};
-ghost use Rattle.engine.specs.Tallies.{booked, cleared};
-
-use crate::rest::Rest;
-use crate::tally::Tally;
-use marks::opening::open_block;
-use marks::writing::write_block;
-use oracle::coded::Coded;
-use oracle::home::go_home;
-use oracle::outcome::Reached;
-use oracle::walk::walk;
+use crate::census::tour::Tour;
 use oracle::walking::Walking;
-use refusals::Refusal;
+use std::marker::Model;
 
 #[derive(Drop)]
-pub struct Census<O> {
-    oracle: O,
-    rest: Rest,
-    tally: Tally,
+pub struct Census<O: Walking> {
+    tour: Tour<O>,
 }
 
-impl<O: Walking> Census<O> {
-    // Goes home, uncounted.
-    fn begin(&mut self)
-        requires { O.Walking.sound self.old.oracle }
-        ensures sound { O.Walking.sound self.new.oracle }
-        ensures setup { O.Walking.setup self.new.oracle ≡ O.Walking.setup self.old.oracle }
-        ensures root { O.Walking.current self.new.oracle ≡ (O.Walking.setup self.old.oracle).root }
-        ensures rest { self.new.rest ≡ Standing }
-        ensures tally { self.new.tally ≡ cleared }
-    {
-        go_home(&mut self.oracle);
-        self.rest = Rest::Standing;
-        self.tally = Tally::cleared();
-    }
+// Contracts see the oracle, for its set-up, and the view of the plain census. The set-up itself cannot
+// stand in a model's value: its functions have no code.
+impl<O: Walking> Model for Census<O> {
+    ghost use Rattle.engine.specs.Seen.{Seen, seen};
 
-    // The walk to the next object, its steps booked: the rank there, or none at the end.
-    fn walk_on(&mut self) -> Option<u32>
-        requires sound { O.Walking.sound self.old.oracle }
-        requires standing { self.old.rest ≡ Standing }
-        ensures sound { O.Walking.sound self.new.oracle }
-        ensures setup { O.Walking.setup self.new.oracle ≡ O.Walking.setup self.old.oracle }
-        ensures advanced { (result, self.new.rest, O.Walking.current self.new.oracle) ≡ advanced (O.Walking.setup self.old.oracle) (walk (O.Walking.setup self.old.oracle) (O.Walking.current self.old.oracle)).stop }
-        ensures booked { self.new.tally ≡ booked (walk (O.Walking.setup self.old.oracle) (O.Walking.current self.old.oracle)).stop (walk (O.Walking.setup self.old.oracle) (O.Walking.current self.old.oracle)).steps self.old.tally }
-    {
-        let outcome = walk(&mut self.oracle, 0);
-        self.tally.book(outcome);
-        match outcome.reached {
-            Reached::Child => Some(self.oracle.rank()),
-            Reached::End => {
-                self.rest = Rest::Past;
-                None
-            }
-        }
-    }
+    ghost Value = { Seen O };
 
-    fn advance(&mut self) -> Result<Option<u32>, Refusal>
-        requires { O.Walking.sound self.old.oracle }
-        ensures sound { O.Walking.sound self.new.oracle }
-        ensures setup { O.Walking.setup self.new.oracle ≡ O.Walking.setup self.old.oracle }
-        ensures advanced { (result, self.new.rest, O.Walking.current self.new.oracle) ≡ next_state (O.Walking.setup self.old.oracle) self.old.rest (O.Walking.current self.old.oracle) }
-        ensures booked { self.new.tally ≡ next_booked (O.Walking.setup self.old.oracle) self.old.rest (O.Walking.current self.old.oracle) self.old.tally }
-    {
-        match self.rest {
-            Rest::Standing => Ok(self.walk_on()),
-            Rest::Past => Err(Refusal::PastEnd),
-        }
-    }
-}
+    ghost view = { λ c. seen O.Walking.setup O.Walking.current c.tour };
 
-impl<O: Coded> Census<O> {
-    fn put_code(&self, buffer: &mut [u8]) -> Result<(), Refusal>
-        requires { O.Walking.sound self.now.oracle }
-        ensures { (result, buffer.new) ≡ read_from (O.Walking.setup self.now.oracle) buffer.old (spot_of self.now.rest (O.Walking.current self.now.oracle)) }
-    {
-        match self.rest {
-            Rest::Standing => self.oracle.put(buffer),
-            Rest::Past => Err(Refusal::PastEnd),
-        }
-    }
-
-    fn put_block(&self, job: u32, buffer: &mut [u8]) -> Result<(), Refusal>
-        requires { O.Walking.sound self.now.oracle }
-        ensures { (result, buffer.new) ≡ save_from job (O.Walking.setup self.now.oracle) buffer.old (spot_of self.now.rest (O.Walking.current self.now.oracle)) }
-    {
-        match self.rest {
-            Rest::Standing => write_block(&self.oracle, job, buffer),
-            Rest::Past => Err(Refusal::PastEnd),
-        }
-    }
-
-    fn take_block(&mut self, job: u32, block: &[u8]) -> Result<(), Refusal>
-        requires { O.Walking.sound self.old.oracle }
-        ensures sound { O.Walking.sound self.new.oracle }
-        ensures setup { O.Walking.setup self.new.oracle ≡ O.Walking.setup self.old.oracle }
-        ensures moved { (result, O.Walking.current self.new.oracle) ≡ moved_to (O.Walking.current self.old.oracle) (opened job (O.Walking.setup self.old.oracle) block.now) }
-        ensures rest { self.new.rest ≡ rest_after result self.old.rest }
-        ensures tally { self.new.tally ≡ tally_after result self.old.tally }
-    {
-        match open_block(&mut self.oracle, job, block) {
-            Err(refusal) => Err(refusal),
-            Ok(()) => {
-                self.rest = Rest::Standing;
-                self.tally = Tally::cleared();
-                Ok(())
-            }
-        }
-    }
+    ghost invariant = { λ c. O.Walking.sound c.tour.oracle };
 }

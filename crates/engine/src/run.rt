@@ -3,7 +3,7 @@ ghost use Rattle.std.specs.Prelude.{◌≡◌, map};
 ghost use Rattle.oracle.specs.Statements.{Complete};
 ghost use Rattle.engine.specs.Counts.{Counted};
 ghost use Rattle.engine.specs.Runs.{order_of, entry_of, plain_run};
-ghost use Rattle.engine.specs.View.{shown, begun};
+ghost use Rattle.engine.specs.View.{begun};
 
 use crate::call::Call;
 use crate::census::Census;
@@ -12,10 +12,9 @@ use oracle::coded::Coded;
 // Makes a census over the oracle and carries out the calls in their order.
 pub fn run<O: Coded>(oracle: O, calls: &mut [Call]) -> Census<O>
     requires { O.Walking.sound oracle }
-    ensures sound { O.Walking.sound result.oracle }
     ensures setup { O.Walking.setup result.oracle ≡ O.Walking.setup oracle }
     ensures complete { Complete (O.Walking.setup oracle) }
-    ensures in_step { (map entry_of calls.new, shown O.Walking.setup O.Walking.current result) ≡ plain_run (O.Walking.setup oracle) (begun (O.Walking.setup oracle)) (map order_of calls.old) }
+    ensures in_step { (map entry_of calls.new, result.view) ≡ plain_run (O.Walking.setup oracle) (begun (O.Walking.setup oracle)) (map order_of calls.old) }
     ensures counted { Counted (O.Walking.setup oracle) (map entry_of calls.new) }
 {
     let mut census = Census::new(oracle);

@@ -6,32 +6,41 @@ use engine::run::run;
 use engine::tally::Tally;
 use maps::{Map, map_of};
 use polygon::Polygon;
+use refusals::Refusal;
 use regions::Regions;
 use std::process::Abort;
 use std::test::Fail;
+
+// What a next answers at the end, and what an act that has no answer of its own answers.
+const END: Result<Answer, Refusal> = Ok(Answer::End);
+
+const DONE: Result<Answer, Refusal> = Ok(Answer::Done);
 
 fn path_of_three() -> Result<Map, Fail> {
     Ok(map_of(3, &[(0, 1), (1, 2)])?)
 }
 
-// An answer as one number: a rank, 100 for the end, 200 for done, 300 for counts, 1000 and more for
-// a refusal.
-fn told(answer: Answer) -> u32 {
-    match answer {
-        Answer::Rank(rank) => rank,
-        Answer::End => 100,
-        Answer::Done => 200,
-        Answer::Counts(_) => 300,
-        Answer::Refused(refusal) => 1000 + u32::from(refusal.number()),
-    }
+// What the nexts of the path of three regions answer, in order.
+const NEXTS: [Result<Answer, Refusal>; 7] = [
+    Ok(Answer::Rank(1)),
+    Ok(Answer::Rank(1)),
+    Ok(Answer::Rank(2)),
+    Ok(Answer::Rank(1)),
+    Ok(Answer::Rank(2)),
+    Ok(Answer::Rank(3)),
+    END,
+];
+
+// What a next answers at an object of this rank.
+fn rank(rank: u32) -> Result<Answer, Refusal> {
+    Ok(Answer::Rank(rank))
 }
 
 fn push(calls: &mut Vec<Call>, rt: &HostRuntime, act: Act, bytes: &[u8]) -> Result<(), Fail> {
     let buffer = bytes.to_vec(rt.alloc())?;
-    match calls.push(Call::new(act, buffer)) {
-        Ok(()) => Ok(()),
-        Err(_) => Err(Fail::new("no memory")),
-    }
+    calls
+        .push(Call::new(act, buffer))
+        .map_err(|_| Fail::new("no memory"))
 }
 
 fn nexts(rt: &HostRuntime, count: u32) -> Result<Vec<Call>, Fail> {
@@ -43,10 +52,10 @@ fn nexts(rt: &HostRuntime, count: u32) -> Result<Vec<Call>, Fail> {
 }
 
 // The answers of the calls are these, in order.
-fn answered(rt: &impl Abort, calls: &[Call], answers: &[u32]) {
+fn answered(rt: &impl Abort, calls: &[Call], answers: &[Result<Answer, Refusal>]) {
     assert!(rt; calls.len() == answers.len());
     for (call, answer) in calls.iter().zip(answers.iter()) {
-        assert_eq!(rt; told(call.answer), *answer);
+        assert_eq!(rt; call.answer, *answer);
     }
 }
 
@@ -58,15 +67,8 @@ fn counted(
     objects: u64,
     steps: u64,
 ) -> Result<(), Fail> {
-    let Some(call) = calls.get(at) else {
-        return Err(Fail::new("no such call"));
-    };
-    let Tally {
-        objects: o,
-        steps: s,
-    } = call.tally;
-    assert_eq!(rt; o, objects);
-    assert_eq!(rt; s, steps);
+    let call = calls.get(at).ok_or("no such call")?;
+    assert_eq!(rt; call.tally, Tally { objects, steps });
     Ok(())
 }
 
@@ -76,7 +78,20 @@ fn path(rt: HostRuntime) -> Result<(), Fail> {
     let map = path_of_three()?;
     let mut calls = nexts(&rt, 8)?;
     let _census = run(Regions::new(&map), calls.as_mut_slice());
-    answered(&rt, calls.as_slice(), &[1, 1, 2, 1, 2, 3, 100, 1007]);
+    answered(
+        &rt,
+        calls.as_slice(),
+        &[
+            rank(1),
+            rank(1),
+            rank(2),
+            rank(1),
+            rank(2),
+            rank(3),
+            END,
+            Err(Refusal::PastEnd),
+        ],
+    );
     counted(&rt, calls.as_slice(), 6, 7, 39)?;
     counted(&rt, calls.as_slice(), 7, 7, 39)
 }
@@ -87,19 +102,21 @@ fn capped_path(rt: HostRuntime) -> Result<(), Fail> {
     let map = path_of_three()?;
     let mut calls = nexts(&rt, 4)?;
     let _census = run(Cap::new(Regions::new(&map), 1), calls.as_mut_slice());
-    answered(&rt, calls.as_slice(), &[1, 1, 1, 100]);
+    answered(&rt, calls.as_slice(), &[rank(1), rank(1), rank(1), END]);
     counted(&rt, calls.as_slice(), 3, 4, 18)
 }
 
 // Five triangulations of a pentagon and 60 steps.
 #[test]
 fn pentagon(rt: HostRuntime) -> Result<(), Fail> {
-    let Ok(five) = Polygon::new(5) else {
-        return Err(Fail::new("five corners"));
-    };
+    let five = Polygon::new(5)?;
     let mut calls = nexts(&rt, 5)?;
     let _census = run(five, calls.as_mut_slice());
-    answered(&rt, calls.as_slice(), &[1, 2, 1, 2, 100]);
+    answered(
+        &rt,
+        calls.as_slice(),
+        &[rank(1), rank(2), rank(1), rank(2), END],
+    );
     counted(&rt, calls.as_slice(), 4, 5, 60)
 }
 
@@ -110,10 +127,8 @@ fn saved_and_resumed(rt: HostRuntime) -> Result<(), Fail> {
     let mut first = nexts(&rt, 3)?;
     push(&mut first, &rt, Act::Save(7), &[0xee; 513])?;
     let _census = run(Regions::new(&map), first.as_mut_slice());
-    answered(&rt, first.as_slice(), &[1, 1, 2, 200]);
-    let Some(saved) = first.pop() else {
-        return Err(Fail::new("nothing saved"));
-    };
+    answered(&rt, first.as_slice(), &[rank(1), rank(1), rank(2), DONE]);
+    let saved = first.pop().ok_or("nothing saved")?;
     let block = saved.bytes.as_slice();
     assert!(rt; block.len() == 513);
     assert!(rt; block[0] == 1 && block[2] == 8 && block[4] == 7 && block[8] == 3);
@@ -124,15 +139,18 @@ fn saved_and_resumed(rt: HostRuntime) -> Result<(), Fail> {
     push(&mut second, &rt, Act::Resume(7), &block[0..512])?;
     push(&mut second, &rt, Act::Read, &[9; 9])?;
     let _census = run(Regions::new(&map), second.as_mut_slice());
-    answered(
-        &rt,
-        second.as_slice(),
-        &[1, 1, 2, 1, 2, 3, 100, 1005, 1002, 200, 200],
-    );
+    let others = [
+        Err(Refusal::JobDiffers),
+        Err(Refusal::BlockSize),
+        DONE,
+        DONE,
+    ];
+    assert_eq!(rt; second.len(), 11);
+    let (nexts, rest) = second.as_slice().split_at(7);
+    answered(&rt, nexts, &NEXTS);
+    answered(&rt, rest, &others);
     counted(&rt, second.as_slice(), 9, 1, 0)?;
-    let Some(read) = second.pop() else {
-        return Err(Fail::new("nothing read"));
-    };
+    let read = second.pop().ok_or("nothing read")?;
     let code = read.bytes.as_slice();
     assert!(rt; code.len() == 9);
     assert!(rt; code[0] == 3 && code[1] == 0 && code[8] == 9);
@@ -144,9 +162,7 @@ fn block_at(rt: &HostRuntime, map: &Map, place: u32) -> Result<Vec<u8>, Fail> {
     let mut calls = nexts(rt, place)?;
     push(&mut calls, rt, Act::Save(9), &[0; 512])?;
     let _census = run(Regions::new(map), calls.as_mut_slice());
-    let Some(saved) = calls.pop() else {
-        return Err(Fail::new("nothing saved"));
-    };
+    let saved = calls.pop().ok_or("nothing saved")?;
     Ok(saved.bytes)
 }
 
@@ -155,20 +171,26 @@ fn block_at(rt: &HostRuntime, map: &Map, place: u32) -> Result<Vec<u8>, Fail> {
 #[test]
 fn round_trips(rt: HostRuntime) -> Result<(), Fail> {
     let map = path_of_three()?;
-    let sets = [0u8, 1, 2, 3, 4, 6, 7];
-    let after = [1u32, 1, 2, 1, 2, 3, 100];
-    for (place, (set, next)) in (0u32..7).zip(sets.iter().zip(after.iter())) {
+    // each set, and what a next answers there
+    let objects = [
+        (0u8, rank(1)),
+        (1, rank(1)),
+        (2, rank(2)),
+        (3, rank(1)),
+        (4, rank(2)),
+        (6, rank(3)),
+        (7, END),
+    ];
+    for (place, (set, next)) in (0u32..7).zip(objects) {
         let block = block_at(&rt, &map, place)?;
         let mut calls = Vec::new(rt.alloc());
         push(&mut calls, &rt, Act::Resume(9), block.as_slice())?;
         push(&mut calls, &rt, Act::Read, &[0xee; 8])?;
         push(&mut calls, &rt, Act::Next, &[])?;
         let _census = run(Regions::new(&map), calls.as_mut_slice());
-        answered(&rt, calls.as_slice(), &[200, 200, *next]);
-        let Some(read) = calls.get(1) else {
-            return Err(Fail::new("nothing read"));
-        };
-        assert!(rt; read.bytes.as_slice() == [*set, 0, 0, 0, 0, 0, 0, 0].as_slice());
+        answered(&rt, calls.as_slice(), &[DONE, DONE, next]);
+        let read = calls.get(1).ok_or("nothing read")?;
+        assert!(rt; read.bytes.as_slice() == [set, 0, 0, 0, 0, 0, 0, 0].as_slice());
     }
     Ok(())
 }

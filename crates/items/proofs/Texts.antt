@@ -16,7 +16,7 @@ use Rattle.items.specs.declared.line.Kind.{Kind}
 use Rattle.items.specs.declared.line.Kind.TheVariants as kind
 use Rattle.items.specs.declared.line.Line.{Line}
 use Rattle.items.specs.declared.line.Line.TheVariants as line
-use Rattle.items.proofs.Decimal.{numeral_is, is_numeral, digits_in}
+use Rattle.items.proofs.Decimal.{clash, numeral_is, is_numeral, digits_in}
 
 -- ---- the item at a place, read off what is left of the line
 
@@ -31,9 +31,6 @@ drop_on l xs at n b e = sym (drop-drop n (at + 1) l) ∙ ap (drop n) (sym (drop-
 -- how many digits stand in front
 abbrev run : List ℕ → ℕ
 run bs = prefix_len is_ascii_digit bs
-
-clash : {X : Type 0} (x : X) {Y : Type 0} → None ≡ Some x → Y
-clash x e = absurd (let z : ◌≡◌ {A = ℕ} 0 1 = cc in omega arith)
 
 at_space : (l bs : List ℕ) (at b : ℕ) → drop at l ≡ b ∷ bs → eqb b 32 ≡ true
     → part_at l at ≡ (number (take (run bs) bs), at + 1 + run bs)
@@ -75,10 +72,10 @@ break_here l at e = go (drop at l) refl
     item : (b : ℕ) (bs : List ℕ) → drop at l ≡ b ∷ bs → (t : Bool) → eqb b 32 ≡ t → drop at l ≡ []
     item b bs f true g =
         let no : number (take (run bs) bs) ≡ break = told _ (at_space l bs at b f g) in
-        absurd (let z : ◌≡◌ {A = ℕ} 0 1 = cc in omega arith)
+        cc
     item b bs f false g =
         let no : letter b ≡ break = told _ (at_letter l bs at b f g) in
-        absurd (let z : ◌≡◌ {A = ℕ} 0 1 = cc in omega arith)
+        cc
 
     go : (xs : List ℕ) → drop at l ≡ xs → drop at l ≡ []
     go [] f = f
@@ -97,7 +94,7 @@ here_number : (l tail : List ℕ) (at a : ℕ) → a < 10 ^ 7 → run tail ≡ 0
 here_number l tail at a h none f =
     let bs = decimal a ++ tail in
     let p = at_space l bs at 32 f refl in
-    let n = run_digits (decimal a) tail (digits_in a h) none in (
+    let n = run_digits (decimal a) tail (digits_in a (omega arith)) none in (
       ap (λ (r : Part × ℕ). number_in r.0) p ∙ ap numeral_of (take_at (decimal a) tail (run bs) (sym n)) ∙ is_numeral a h,
       ap (λ (r : Part × ℕ). drop r.1 l) p ∙ drop_on l bs at (run bs) 32 f ∙ drop_at (decimal a) tail (run bs) (sym n),
     )
@@ -204,7 +201,7 @@ by_kind : List ℕ → Option Kind → Result Line Refusal
 by_kind l o = elim o [ None ↦ Err FirstByte | Some k ↦ well_formed (lettered k l (part_at l 0).1) ]
 
 formed : (o : Option Line) (x : Line) → well_formed o ≡ Ok x → o ≡ Some x
-formed None x e = absurd (let z : ◌≡◌ {A = ℕ} 0 1 = cc in omega arith)
+formed None x e = cc
 formed (Some y) x e = cc
 
 value_spelt : (l : List ℕ) (x : Line) → line_of l ≡ Ok x → Spelt l x
@@ -214,7 +211,7 @@ value_spelt l x e = go (kind_in (part_at l 0).0) refl
     go : (o : Option Kind) → kind_in (part_at l 0).0 ≡ o → Spelt l x
     go None f =
         let no : ◌≡◌ {A = Result Line Refusal} (Err FirstByte) (Ok x) = sym (ap (by_kind l) f) ∙ e in
-        absurd (let z : ◌≡◌ {A = ℕ} 0 1 = cc in omega arith)
+        cc
     go (Some k) f =
         subst (λ ys. Spelt ys x) (sym (letter_here l k f))
         (lettered_is k l (part_at l 0).1 x (formed (lettered k l (part_at l 0).1) x (sym (ap (by_kind l) f) ∙ e)))
@@ -283,7 +280,7 @@ bad_line l k e = go (kind_in (part_at l 0).0) refl
   where
     formed-not : (o : Option Line) → well_formed o ≡ Err k → k ≡ LineForm
     formed-not None f = cc
-    formed-not (Some x) f = absurd (let z : ◌≡◌ {A = ℕ} 0 1 = cc in omega arith)
+    formed-not (Some x) f = cc
 
     go : (o : Option Kind) → kind_in (part_at l 0).0 ≡ o
         → ((k ≡ FirstByte) × (kind_at l ≡ None)) ⊎ ((k ≡ LineForm) × (is_some (kind_at l) ≡ true))

@@ -19,7 +19,15 @@ kind_of b =
     (cond (b == 67) (Some kind.Cap)
     (cond (b == 46) (Some kind.Stop) None))))
 
--- what a line is about, by its first byte
+-- what a line is about
+abbrev pub kind_of_line : Line → Kind
+kind_of_line (line.Regions n) = kind.Regions
+kind_of_line (line.Polygon n) = kind.Polygon
+kind_of_line (line.Pair a b) = kind.Pair
+kind_of_line (line.Cap c) = kind.Cap
+kind_of_line (line.Stop m) = kind.Stop
+
+-- the same, by its first byte
 abbrev pub kind_at : List ℕ → Option Kind
 kind_at [] = None
 kind_at (b ∷ bs) = kind_of b

@@ -17,12 +17,7 @@ fn digit_run(bytes: &[u8]) -> usize
     ensures value { result ≡ prefix_len is_ascii_digit bytes.now }
     ensures within { result ≤ length bytes.now }
 {
-    for (n, b) in bytes.iter().enumerate() {
-        if !b.is_ascii_digit() {
-            return n;
-        }
-    }
-    bytes.len()
+    bytes.iter().take_while(|b| b.is_ascii_digit()).count()
 }
 
 impl<'a> Lexer<'a> {
@@ -49,10 +44,9 @@ impl<'a> Lexer<'a> {
     {
         let line = self.line;
         let start = self.place;
-        if start.at >= line.len() {
+        let Some(first) = line.get(start.at) else {
             return Item::Break(start);
-        }
-        let first = &line[start.at];
+        };
         if *first != b' ' {
             self.place.at = start.at + 1;
             return Item::Letter(first, start);

@@ -11,5 +11,5 @@ mod parse;
 pub use item::{Item, Place};
 pub use lexer::Lexer;
 pub use line::{Kind, Line};
-pub use numerals::numeral;
+pub use numerals::{number, numeral};
 pub use parse::{kind_of, read_line};

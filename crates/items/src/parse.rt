@@ -9,7 +9,8 @@ use super::line::{Kind, Line};
 use super::numerals::numeral;
 use refusals::Refusal;
 
-// The first byte of a line, as a character, says what the line is about.
+// The first byte of a line, as a character, says what the line is about; the project's rules ask for
+// this match on the character.
 pub fn kind_of(byte: u8) -> Option<Kind>
     ensures { result ≡ kind_of byte }
 {
@@ -28,8 +29,7 @@ fn kind_in(item: Item) -> Option<Kind>
 {
     match item {
         Item::Letter(byte, _) => kind_of(*byte),
-        Item::Number(_, _) => None,
-        Item::Break(_) => None,
+        _ => None,
     }
 }
 
@@ -37,9 +37,8 @@ fn number_in(item: Item) -> Option<u32>
     ensures { result ≡ number_in (part_of item.entry) }
 {
     match item {
-        Item::Letter(_, _) => None,
         Item::Number(digits, _) => numeral(digits),
-        Item::Break(_) => None,
+        _ => None,
     }
 }
 
@@ -48,9 +47,8 @@ fn end_of(item: Item, line: Line) -> Option<Line>
     ensures { result ≡ ended (part_of item.entry) line }
 {
     match item {
-        Item::Letter(_, _) => None,
-        Item::Number(_, _) => None,
         Item::Break(_) => Some(line),
+        _ => None,
     }
 }
 
@@ -84,17 +82,13 @@ fn numbers_from(kind: Kind, lexer: &mut Lexer) -> Option<Line>
 }
 
 // The line's letter, and then its numbers.
+#[tactic(auto, unfolding(crate::specs::Lines::line_of))]
 fn parse_line(bytes: &[u8], number: u32) -> Result<Line, Refusal>
     ensures { result ≡ line_of bytes.now }
 {
     let mut lexer = Lexer::new(bytes, number);
-    let Some(kind) = kind_in(lexer.next_item()) else {
-        return Err(Refusal::FirstByte);
-    };
-    match numbers_from(kind, &mut lexer) {
-        Some(line) => Ok(line),
-        None => Err(Refusal::LineForm),
-    }
+    let kind = kind_in(lexer.next_item()).ok_or(Refusal::FirstByte)?;
+    numbers_from(kind, &mut lexer).ok_or(Refusal::LineForm)
 }
 
 // What the finished line of that number says, or what is wrong with its bytes.

@@ -1,1 +1,2 @@
+pub mod Appended
 pub mod Texts

@@ -148,21 +148,12 @@ inside_bare n i j h = bare_zero i j
 pub pair_good : (n a b : ℕ) → pair_fault n a b ≡ None → (a < n) × (b < n) × (a ≢ b)
 pair_good n a b e = grind (arith, nat_tests)
 
-pub entered_twice : (t u v : List ℕ) (a b : ℕ) → u ≡ entered t a b → v ≡ entered u b a → v ≡ with_pair t a b
-unfolding with_pair
-entered_twice t u v a b e f = f ∙ ap (λ x. entered x b a) e
-
 by_offer : Regions → ℕ → ℕ → Option Refusal → Result (Unit {0}) Refusal × Regions
 by_offer m a b o =
     elim o [
       | None ↦ (Ok tt, record { count_of = m.count_of; rows = with_pair m.rows a b })
       | Some k ↦ (Err k, m)
     ]
-
-pub offered_good : (m : Regions) (a b : ℕ) → pair_fault m.count_of a b ≡ None
-    → offered m a b ≡ (Ok tt, record { count_of = m.count_of; rows = with_pair m.rows a b })
-unfolding by_offer
-offered_good m a b e = ap (by_offer m a b) e
 
 -- one pair more in a list of pairs, taken or refused
 abbrev with_one : Regions → ℕ × ℕ → Regions

@@ -4,11 +4,11 @@ use Rattle.maps.specs.Touch.{Regions, Touching}
 use Rattle.maps.specs.declared.draft.Draft.{Draft}
 use Rattle.maps.specs.declared.map.Map.{Map}
 
-abbrev pub drafted : Draft → Regions
-drafted d = record { count_of = d.n; rows = d.rows }
-
 abbrev pub mapped_out : Map → Regions
 mapped_out m = record { count_of = m.n; rows = m.rows }
+
+abbrev pub drafted : Draft → Regions
+drafted d = mapped_out d.map
 
 -- a Result's value seen through a view, its error as it is
 abbrev pub through : {X Y E : Type 0} → (X → Y) → Result X E → Result Y E

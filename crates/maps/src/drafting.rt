@@ -1,5 +1,5 @@
 ghost use Rattle.std.specs.Prelude.{◌≡◌, ◌<◌};
-ghost use Rattle.maps.specs.Touch.{begun, entered, offered, map_from, pair_fault};
+ghost use Rattle.maps.specs.Touch.{begun, with_pair, offered, map_from, pair_fault};
 ghost use Rattle.maps.specs.Views.{drafted, mapped_out, through, Meant};
 
 use super::draft::Draft;
@@ -19,12 +19,15 @@ pub fn pair_fault(n: u32, a: u32, b: u32) -> Option<Refusal>
     None
 }
 
-// Enters region a as touching b, one way.
-fn enter(rows: &mut [u64; 64], a: usize, b: u32)
-    requires { a < 64 }
-    ensures { rows.new ≡ entered rows.old a b }
+// Enters two regions as touching, both ways.
+#[tactic(auto, unfolding(crate::specs::Touch::with_pair))]
+fn enter(rows: &mut [u64; 64], a: u32, b: u32)
+    requires first { a < 64 }
+    requires second { b < 64 }
+    ensures { rows.new ≡ with_pair rows.old a b }
 {
-    rows[a] = digits::with(rows[a], b);
+    rows[a as usize] = digits::with(rows[a as usize], b);
+    rows[b as usize] = digits::with(rows[b as usize], a);
 }
 
 impl Draft {
@@ -35,27 +38,28 @@ impl Draft {
         if n < 1 || n > 64 {
             return Err(Refusal::OutOfRange);
         }
-        Ok(Draft { n, rows: [0; 64] })
+        Ok(Draft {
+            map: Map { n, rows: [0; 64] },
+        })
     }
 
     // Takes one pair more; a refused pair changes nothing, a pair given twice counts once.
     pub fn add(&mut self, a: u32, b: u32) -> Result<(), Refusal>
         ensures { (result, drafted self.new) ≡ offered (drafted self.old) a b }
     {
-        if let Some(refusal) = pair_fault(self.n, a, b) {
+        // the public answer is what is wrong, or none, so it is an Option and not a Result
+        if let Some(refusal) = pair_fault(self.map.n, a, b) {
             return Err(refusal);
         }
-        enter(&mut self.rows, a as usize, b);
-        enter(&mut self.rows, b as usize, a);
+        enter(&mut self.map.rows, a, b);
         Ok(())
     }
 
-    // Moves the draft into a map; it never refuses.
+    // Moves the map out of the draft; it never refuses.
     pub fn seal(self) -> Map
         ensures { mapped_out result ≡ drafted self }
     {
-        let Draft { n, rows } = self;
-        Map { n, rows }
+        self.map
     }
 }
 

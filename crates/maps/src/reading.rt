@@ -40,8 +40,8 @@ impl Map {
         ensures { result ≡ pair_total self.now.rows self.now.n }
     {
         let mut total = 0u32;
-        for j in 0..self.n {
-            total += lower(self.rows[j as usize], j);
+        for (row, j) in self.rows.iter().zip(0..self.n) {
+            total += lower(*row, j);
         }
         total
     }

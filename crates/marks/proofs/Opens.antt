@@ -18,3 +18,8 @@ module _ (s : Setup) (v : Code) (row : List ℕ) (k : ℕ) (judged : Result ℕ 
       go : (b : Bool) → (elim b [ true ↦ (Ok tt, code_in row) | false ↦ (Err NotACode, v) ]) ≡ moved_to v (recognized true b (code_in row))
       go true = refl
       go false = refl
+
+  pub other_size : eqb k s.size ≡ false → (Err NotACode, v) ≡ moved_to v (decoded s row judged)
+  other_size other =
+      sym (ap (λ b. moved_to v (recognized b (s.object (code_in row)) (code_in row))) other)
+      ∙ ap (λ j. moved_to v (decoded s row j)) e

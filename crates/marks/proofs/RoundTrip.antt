@@ -7,7 +7,7 @@ use Rattle.std.specs.List.{between}
 use Rattle.oracle.specs.Laws.{Object, Lawful}
 use Rattle.oracle.specs.Setup.{Code, Setup}
 use Rattle.marks.specs.Bytes.{four_bytes}
-use Rattle.marks.specs.Layout.{edition, head, body, check, block}
+use Rattle.marks.specs.Layout.{edition, head, padded, body, check, block}
 use Rattle.marks.specs.Opening.{size_in, job_in, code_in, filling_in, all_zero, checks, size_fits, well_formed, examined, recognized, decoded, opened}
 
 -- a number is told again by its bytes
@@ -28,7 +28,6 @@ four_back n h =
     weighed n q r t a b c d e f g h = omega arith
 
 all_zero_replicate : (n : ℕ) → all_zero (replicate n 0) ≡ true
-unfolding all_zero
 all_zero_replicate zero = refl
 all_zero_replicate (suc n) = all_zero_replicate n
 
@@ -45,6 +44,13 @@ granted job s row v whole sum form same-job same_size code object =
     known : (a b : Bool) → a ≡ true → b ≡ true → (w : Code) → recognized a b w ≡ Ok w
     known a b p q w = rw (p, q) refl
 
+pub padded_length : (s : Setup) → Lawful s → (v : Code) → Object s v → length (padded s v) ≡ 500
+padded_length s law v object =
+    let a = length-append v (replicate (500 - s.size) 0) in
+    let b : length (replicate {A = ℕ} (500 - s.size) 0) ≡ 500 - s.size = length-replicate (500 - s.size) 0 in
+    let n = law.code_size v object in
+    omega (arith, law.size_limit)
+
 module _ (s : Setup) (law : Lawful s) (v : Code) (object : Object s v) (job : ℕ) (fits : job < 4294967296) where
   zeros : List ℕ
   zeros = replicate (500 - s.size) 0
@@ -52,12 +58,8 @@ module _ (s : Setup) (law : Lawful s) (v : Code) (object : Object s v) (job : �
   sum-bytes : List ℕ
   sum-bytes = four_bytes (check (body job s v))
 
-  pub body_length : length (body job s v) ≡ 508
-  body_length =
-      let a = length-append v (replicate (500 - s.size) 0) in
-      let b : length (replicate {A = ℕ} (500 - s.size) 0) ≡ 500 - s.size = length-replicate (500 - s.size) 0 in
-      let n = law.code_size v object in
-      omega (arith, law.size_limit)
+  body_length : length (body job s v) ≡ 508
+  body_length = let n = padded_length s law v object in omega arith
 
   check-read : checks (block job s v) ≡ true
   check-read =

@@ -1,14 +1,13 @@
 -- What the writes to parts of a block leave.
-use Rattle.std.proofs.Common.{◌≡◌, ℕ, ◌<◌, ◌≤◌, Bool, true, false, ltb, List, ◌++◌, length, take, drop, replicate, Ok, Err, Result, sym, ap, ◌∙◌, arith}
-use borrow.Rule.Slice.PartMut.{put_mid, post_of}
-use Rattle.std.proofs.lemmas.List.{append-nil, length-drop, length-replicate, take_at, take-take, drop_at, drop_all, drop-drop, drop-replicate}
-use Rattle.std.proofs.lemmas.Slice.{drop-append-drop}
-use Rattle.std.proofs.lemmas.Bool.{le-ltb, lt-ltb}
+use Rattle.std.proofs.Common.{◌≡◌, ℕ, ◌≤◌, Bool, true, false, ltb, List, ◌++◌, length, take, drop, replicate, Ok, Err, Result, sym, ap, ◌∙◌, arith}
+use borrow.Rule.Slice.PartMut.{put_mid}
+use Rattle.std.proofs.lemmas.List.{append_assoc, append-nil, length-append, length-replicate, take_at, drop_at, drop-drop, drop-replicate, take-replicate}
+use Rattle.std.proofs.lemmas.Bool.{le-ltb}
 use Rattle.refusals.specs.declared.Refusal.{Refusal}
 use Rattle.refusals.specs.declared.Refusal.TheVariants.{BufferShort}
 use Rattle.oracle.specs.Calls.{written}
 use Rattle.oracle.specs.Setup.{Code, Setup}
-use Rattle.marks.specs.Layout.{padded, placed, sealed}
+use Rattle.marks.specs.Layout.{padded, placed}
 
 -- a code put over zeros
 pub put_zeros : (s : Setup) (v : Code) (bytes out : List ℕ) (r : Result (Unit {0}) Refusal) → (r, out) ≡ written s v bytes → bytes ≡ replicate 500 0 → s.size ≤ 500 → out ≡ padded s v
@@ -24,28 +23,38 @@ put_zeros s v bytes out r e zeros le =
     long : (b : Bool) → b ≡ false → put_if b ≡ put_if false
     long b f = ap put_if f
 
--- the code behind the head
-pub laid : (bytes front code : List ℕ) → length bytes ≡ 508 → length front ≡ 8 → put_mid 8 500 (front ++ post_of 0 8 bytes) code ≡ front ++ code
-laid bytes front code n m =
-    let rest : length (drop 8 bytes) ≤ 500 = omega (arith, length-drop 8 bytes) in
-    ap (λ t. t ++ (code ++ drop 500 (drop 8 (front ++ drop 8 bytes)))) (take_at front (drop 8 bytes) 8 m)
-    ∙ ap (λ t. front ++ (code ++ drop 500 t)) (drop_at front (drop 8 bytes) 8 m)
-    ∙ ap (λ t. front ++ (code ++ t)) (drop_all 500 (drop 8 bytes) rest)
-    ∙ ap (λ t. front ++ t) (append-nil code)
+abbrev pub zeros : List ℕ
+zeros = replicate 512 0
 
--- the check behind the body
-pub stamped : (bytes stamp : List ℕ) → length bytes ≡ 512 → put_mid 508 4 bytes stamp ≡ take 508 bytes ++ stamp
-stamped bytes stamp n =
-    ap (λ t. take 508 bytes ++ (stamp ++ t)) (drop-drop 4 508 bytes ∙ drop_all 512 bytes (omega arith))
-    ∙ ap (λ t. take 508 bytes ++ t) (append-nil stamp)
+-- what stands behind the head that was put over zeros
+pub behind : (front : List ℕ) → length front ≡ 8 → take 500 (drop 8 (front ++ drop 8 zeros)) ≡ replicate 500 0
+behind front m =
+    ap (take 500) (drop_at front (drop 8 zeros) 8 m ∙ drop-replicate 8 512 0)
+    ∙ take-replicate 500 504 0 (omega arith)
 
--- a sealed body at the front of a buffer
-pub fronted : (body buffer out : List ℕ) → length body ≡ 508 → 512 ≤ length buffer → out ≡ sealed (take 508 (take 512 (body ++ drop 508 buffer))) → (Ok tt, out ++ drop 512 (body ++ drop 508 buffer)) ≡ placed (ltb (length buffer) 512) (sealed body) buffer
-fronted body buffer out n le e =
-    ap (λ t. (Ok tt, t ++ drop 512 (body ++ drop 508 buffer)))
-    (e ∙ ap sealed (take-take 508 512 (body ++ drop 508 buffer) (omega arith) ∙ take_at body (drop 508 buffer) 508 n))
-    ∙ ap (λ t. (Ok tt, sealed body ++ t)) (drop-append-drop 508 buffer body 512 (omega arith) n)
-    ∙ sym (ap (λ b. placed b (sealed body) buffer) (le-ltb (length buffer) 512 le))
+-- the code put behind the head, and the check over the last four bytes
+module _ (front code stamp : List ℕ) (m : length front ≡ 8) (n : length code ≡ 500) where
+  pub laid : put_mid 8 500 (front ++ drop 8 zeros) code ≡ (front ++ code) ++ drop 508 zeros
+  laid =
+      ap (λ t. t ++ (code ++ drop 500 (drop 8 (front ++ drop 8 zeros)))) (take_at front (drop 8 zeros) 8 m)
+      ∙ ap (λ t. front ++ (code ++ drop 500 t)) (drop_at front (drop 8 zeros) 8 m)
+      ∙ ap (λ t. front ++ (code ++ t)) (drop-drop 500 8 zeros)
+      ∙ sym (append_assoc front code (drop 508 zeros))
 
-pub short : (row buffer : List ℕ) → length buffer < 512 → (Err BufferShort, buffer) ≡ placed (ltb (length buffer) 512) row buffer
-short row buffer lt = sym (ap (λ b. placed b row buffer) (lt-ltb (length buffer) 512 lt))
+  whole : length (front ++ code) ≡ 508
+  whole = length-append front code ∙ omega (arith, m, n)
+
+  pub checked : take 508 (put_mid 8 500 (front ++ drop 8 zeros) code) ≡ front ++ code
+  checked = ap (take 508) laid ∙ take_at (front ++ code) (drop 508 zeros) 508 whole
+
+  pub stamped : put_mid 508 4 (put_mid 8 500 (front ++ drop 8 zeros) code) stamp ≡ (front ++ code) ++ stamp
+  stamped =
+      ap (λ t. put_mid 508 4 t stamp) laid
+      ∙ ap (λ t. t ++ (stamp ++ drop 4 (drop 508 ((front ++ code) ++ drop 508 zeros)))) (take_at (front ++ code) (drop 508 zeros) 508 whole)
+      ∙ ap (λ t. (front ++ code) ++ (stamp ++ drop 4 t)) (drop_at (front ++ code) (drop 508 zeros) 508 whole)
+      ∙ ap (λ t. (front ++ code) ++ (stamp ++ t)) (ap (drop 4) (drop-replicate 508 512 0) ∙ drop-replicate 4 4 0)
+      ∙ ap (λ t. (front ++ code) ++ t) (append-nil stamp)
+
+-- a block at the front of a buffer
+pub fronted : (row buffer : List ℕ) → 512 ≤ length buffer → (Ok tt, row ++ drop 512 buffer) ≡ placed (ltb (length buffer) 512) row buffer
+fronted row buffer le = sym (ap (λ b. placed b row buffer) (le-ltb (length buffer) 512 le))

@@ -1,6 +1,6 @@
 -- What opening a mark block gives: the code of an object, or the first refusal that applies.
-use Rattle.std.specs.Prelude.{ℕ, ◌+◌, Bool, true, false, ◌&&◌, List, [], ◌∷◌, length, take, Ok, Err, Result, ◌==◌, nat_le, nat_lt}
-use Rattle.std.specs.List.{between}
+use Rattle.std.specs.Prelude.{ℕ, ◌+◌, Bool, true, false, ◌&&◌, List, length, take, Ok, Err, Result, ◌==◌, nat_le, nat_lt}
+use Rattle.std.specs.List.{between, list_all}
 use Rattle.refusals.specs.declared.Refusal.{Refusal}
 use Rattle.refusals.specs.declared.Refusal.TheVariants.{BlockSize, BlockCheck, BlockForm, JobDiffers, NotACode}
 use Rattle.oracle.specs.Setup.{Code, Setup}
@@ -20,9 +20,8 @@ code_in row = between 8 (8 + size_in row) row
 abbrev pub filling_in : List ℕ → List ℕ
 filling_in row = between (8 + size_in row) 508 row
 
-unfoldable pub all_zero : List ℕ → Bool
-all_zero [] = true
-all_zero (b ∷ bs) = b == 0 && all_zero bs
+abbrev pub all_zero : List ℕ → Bool
+all_zero bytes = list_all (λ b. b == 0) bytes
 
 -- The four check bytes are one number.
 abbrev pub checks : List ℕ → Bool

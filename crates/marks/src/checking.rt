@@ -1,37 +1,27 @@
 //! The check of a block, and its filling.
-ghost use Rattle.std.specs.Prelude.{◌≡◌, ◌≤◌, length, take};
+ghost use Rattle.std.specs.Prelude.{◌≡◌, take};
 ghost use Rattle.marks.specs.Layout.{check};
 ghost use Rattle.marks.specs.Opening.{all_zero};
 
-// Each byte times its place counted from 1, added up and reduced.
-fn check(bytes: &[u8]) -> u32
-    requires { length bytes.now ≤ 512 }
-    ensures { result ≡ check bytes.now }
-{
-    let mut sum: u32 = 0;
-    let mut place: u32 = 0;
-    for byte in bytes {
-        place += 1;
-        sum += place * u32::from(*byte);
-    }
-    sum % 65521
-}
+// A block, and what its check is taken over.
+pub(crate) const BLOCK: usize = 512;
 
-// The check of a block, over the bytes before it.
-pub(crate) fn check_of(block: &[u8]) -> u32
-    requires { length block.now ≡ 512 }
+pub(crate) const BODY: usize = 508;
+
+// The check of a block: each byte before it times its place counted from 1, added up and reduced.
+pub(crate) fn check_of(block: &[u8; BLOCK]) -> u32
     ensures { result ≡ check (take 508 block.now) }
 {
-    check(&block[0..508])
+    let mut sum: u32 = 0;
+    let body = &block[..BODY];
+    for (index, byte) in body.iter().enumerate() {
+        sum += (index as u32 + 1) * u32::from(*byte);
+    }
+    sum % 65521
 }
 
 pub(crate) fn all_zero(bytes: &[u8]) -> bool
     ensures { result ≡ all_zero bytes.now }
 {
-    for byte in bytes {
-        if *byte != 0 {
-            return false;
-        }
-    }
-    true
+    bytes.iter().all(|byte| *byte == 0)
 }

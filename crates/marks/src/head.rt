@@ -4,6 +4,9 @@ ghost use Rattle.marks.specs.Layout.{edition, head};
 
 use oracle::coded::Coded;
 
+// How many bytes the head has.
+pub(crate) const HEAD: usize = 8;
+
 // The edition of the block form for this oracle's set-up.
 pub(crate) fn edition<O: Coded>(oracle: &O) -> u8
     ensures { result ≡ edition (O.Walking.setup oracle.now) }
@@ -11,7 +14,7 @@ pub(crate) fn edition<O: Coded>(oracle: &O) -> u8
     1
 }
 
-pub(crate) fn head<O: Coded>(oracle: &O, job: u32) -> [u8; 8]
+pub(crate) fn head<O: Coded>(oracle: &O, job: u32) -> [u8; HEAD]
     requires { O.Walking.sound oracle.now }
     ensures { result ≡ head job (O.Walking.setup oracle.now) }
 {

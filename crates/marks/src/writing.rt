@@ -1,40 +1,24 @@
 //! Writing a mark block.
-ghost use Rattle.std.specs.Prelude.{◌≡◌, length, take, Ok};
-ghost use Rattle.marks.specs.Layout.{block, body, marked, padded, sealed};
+ghost use Rattle.std.specs.Prelude.{◌≡◌, Ok};
+ghost use Rattle.marks.specs.Layout.{block, marked};
 ghost use Rattle.marks.specs.Opening.{opened};
 
-use crate::checking::check_of;
-use crate::head::head;
+use crate::checking::{BLOCK, BODY, check_of};
+use crate::head::{HEAD, head};
 use oracle::coded::Coded;
 use refusals::Refusal;
 
-// The code and the filling.
-fn lay_code<O: Coded>(oracle: &O, bytes: &mut [u8])
-    requires sound { O.Walking.sound oracle.now }
-    requires room { length bytes.old ≡ 500 }
-    ensures { bytes.new ≡ padded (O.Walking.setup oracle.now) (O.Walking.current oracle.now) }
+// The block of the current object: the head, the code, the filling and the check.
+fn block<O: Coded>(oracle: &O, job: u32) -> [u8; BLOCK]
+    requires { O.Walking.sound oracle.now }
+    ensures { result ≡ block job (O.Walking.setup oracle.now) (O.Walking.current oracle.now) }
 {
-    bytes.fill(0);
-    let _ = oracle.put(bytes);
-}
-
-// The head, the code and the filling.
-fn lay_body<O: Coded>(oracle: &O, job: u32, bytes: &mut [u8])
-    requires sound { O.Walking.sound oracle.now }
-    requires room { length bytes.old ≡ 508 }
-    ensures { bytes.new ≡ body job (O.Walking.setup oracle.now) (O.Walking.current oracle.now) }
-{
-    bytes[0..8].copy_from_slice(&head(oracle, job));
-    lay_code(oracle, &mut bytes[8..508]);
-}
-
-// The check, after the 508 bytes that it is taken over.
-fn seal(bytes: &mut [u8])
-    requires { length bytes.old ≡ 512 }
-    ensures { bytes.new ≡ sealed (take 508 bytes.old) }
-{
-    let sum = check_of(bytes);
-    bytes[508..512].copy_from_slice(&sum.to_le_bytes());
+    let mut bytes = [0; BLOCK];
+    bytes[..HEAD].copy_from_slice(&head(oracle, job));
+    let _ = oracle.put(&mut bytes[HEAD..BODY]);
+    let sum = check_of(&bytes);
+    bytes[BODY..].copy_from_slice(&sum.to_le_bytes());
+    bytes
 }
 
 // Writes the block of the current object to the first 512 bytes of the buffer; the others stay as
@@ -44,10 +28,8 @@ pub fn write_block<O: Coded>(oracle: &O, job: u32, buffer: &mut [u8]) -> Result<
     ensures written { (result, buffer.new) ≡ marked job (O.Walking.setup oracle.now) (O.Walking.current oracle.now) buffer.old }
     ensures opens { opened job (O.Walking.setup oracle.now) (block job (O.Walking.setup oracle.now) (O.Walking.current oracle.now)) ≡ Ok (O.Walking.current oracle.now) }
 {
-    if buffer.len() < 512 {
-        return Err(Refusal::BufferShort);
-    }
-    lay_body(oracle, job, &mut buffer[0..508]);
-    seal(&mut buffer[0..512]);
+    // as in the other writers of codes and blocks: one function over the size would be no shorter
+    let front = buffer.first_chunk_mut().ok_or(Refusal::BufferShort)?;
+    *front = block(oracle, job);
     Ok(())
 }

@@ -15,20 +15,17 @@ pub const CODE_SIZE: usize = 8;
 pub fn read_code(row: &[u8]) -> Option<u64>
     ensures { result ≡ read_code row.now }
 {
-    let [a, b, c, d, e, f, g, h] = row else {
-        return None;
-    };
-    Some(u64::from_le_bytes([*a, *b, *c, *d, *e, *f, *g, *h]))
+    let code = row.as_array::<CODE_SIZE>()?;
+    Some(u64::from_le_bytes(*code))
 }
 
 // Writes a mask's code to the front of the buffer; the bytes beyond stay as found.
 pub fn write_code(set: u64, buffer: &mut [u8]) -> Result<(), Refusal>
     ensures { (result, buffer.new) ≡ written_code set buffer.old }
 {
-    if buffer.len() < CODE_SIZE {
-        return Err(Refusal::BufferShort);
-    }
-    buffer[0..CODE_SIZE].copy_from_slice(&set.to_le_bytes());
+    // as in the other writers of codes and blocks: one function over the size would be no shorter
+    let front = buffer.first_chunk_mut().ok_or(Refusal::BufferShort)?;
+    *front = set.to_le_bytes();
     Ok(())
 }
 

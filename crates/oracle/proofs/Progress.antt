@@ -56,9 +56,6 @@ module _ (s : Setup) (v w : Code) (j a : ℕ) (r : Option ℕ) (lt : j < s.width
         record { stop_same = ap (λ (r : Walked). r.stop) h; steps_same = omega arith },
       )
 
-  pub turn_back : Lawful s → Object s v → (k : ℕ) → r ≡ Some k → k < s.width
-  turn_back law o k f = law.return_below v w j k o lt (crossed_some v w (s.slot v j) r k e f)
-
 -- no slot of v is left
 module _ (s : Setup) (law : Lawful s) (v : Code) (o : Object s v) (j a : ℕ) (le : s.width ≤ j) where
   pub turn_up : (u : Code) (h i : ℕ) → s.home v ≡ Some h → s.slot v h ≡ filled u i → Onward s v j a u (i + 1) (min (a + 1) ceiling)

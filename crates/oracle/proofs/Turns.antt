@@ -1,7 +1,7 @@
 -- The turns of the walk's two loops, over any oracle: W is its meaning.
 use Rattle.std.proofs.Common.{◌≡◌, ℕ, ◌+◌, ◌<◌, ◌≤◌, min, true, false, Some, None, Option, sym, refl, ap, ◌∙◌, subst, subst₂, arith}
 use Rattle.oracle.proofs.Landing.{walk_lands}
-use Rattle.oracle.proofs.Progress.{Onward, Arrived, onward_more, onward_arrived, turn_vacant, turn_child, turn_other, turn_back, turn_up, turn_end}
+use Rattle.oracle.proofs.Progress.{Onward, Arrived, onward_more, onward_arrived, turn_vacant, turn_child, turn_other, turn_up, turn_end}
 use Rattle.oracle.specs.Laws.{Object, Lawful}
 use Rattle.oracle.specs.Outcomes.{ceiling, counted, across, landing, rested}
 use Rattle.oracle.specs.Places.{place}
@@ -55,10 +55,6 @@ module _ {D : Type 0} {W : Ghosts D} where
         within = q.within;
       }
 
-  pub scan_rank : {first o : D} {j₀ a₀ j a : ℕ} → Scanning D W first j₀ a₀ o j a → (W.setup o).rank (W.current o) ≡ (W.setup first).rank (W.current first)
-  scan_rank {first} {o} q =
-      subst₂ (λ (s : Setup) (v : Code). (W.setup o).rank (W.current o) ≡ s.rank v) q.setup_same q.current_same refl
-
   -- the width that was asked for at first
   pub scan_below : {first o : D} {j₀ a₀ j a w : ℕ} → Rising D W first j₀ a₀ o j a → w ≡ (W.setup first).width → j < w → j < (W.setup o).width
   scan_below p e lt =
@@ -77,11 +73,6 @@ module _ {D : Type 0} {W : Ghosts D} where
 
     stands : Object (W.setup o) (W.current o)
     stands = W.stands o q.sound_now
-
-    pub back_below : {k : ℕ} → r ≡ Some k → k < (W.setup p).width
-    back_below {k} e =
-        subst (λ (t : Setup). k < t.width) (sym x.setup_same)
-        (turn_back (W.setup o) (W.current o) (W.current p) j a r lt x.crossed law stands k e)
 
     -- the scan goes on at the same object
     go_on : (m : D) (b c : ℕ) → W.sound m → W.setup m ≡ W.setup o → W.current m ≡ W.current o → Onward (W.setup o) (W.current o) j a (W.current o) (j + 1) b → c ≡ b → b ≤ ceiling → Scanning D W first j₀ a₀ m (j + 1) c
@@ -167,23 +158,6 @@ module _ {D : Type 0} {W : Ghosts D} where
       arrive first o o j₀ j a a past End q q.sound_now refl
       (subst (λ n. Arrived (W.setup o) (W.current o) j a past n) all turn.1)
       (ap (λ v. (End, v)) (turn.0 ∙ ap (λ (t : Setup). t.root) q.setup_same))
-
--- the parent is below its child, and reached by a slot below the width
-module _ (D : Type 0) (W : Ghosts D) (o p : D) (h i : ℕ) (sound : W.sound o) (e : (W.setup o).home (W.current o) ≡ Some h) (f : (W.setup o).slot (W.current o) h ≡ filled (W.current p) i) where
-  pub risen_lower : W.setup p ≡ W.setup o → (W.setup p).rank (W.current p) < (W.setup o).rank (W.current o)
-  risen_lower same =
-      let kept = ap (λ (t : Setup). t.rank (W.current p)) same in
-      omega (arith, (W.lawful o sound).parent_lower (W.current o) (W.current p) h i (W.stands o sound) e f)
-
-  pub risen_below : i < 4096
-  risen_below =
-      let law = W.lawful o sound in
-      let stands = W.stands o sound in
-      omega (
-        arith,
-        law.return_below (W.current o) (W.current p) h i stands (law.home_below (W.current o) h stands e) f,
-        law.width_limit,
-      )
 
 -- the walk from slot 0 leads to the next place
 pub ended_next : {D : Type 0} {W : Ghosts D} {first o : D} {j₀ b : ℕ} {reached : Reached} → Ended D W first j₀ reached o b → W.sound first → j₀ ≡ 0 → landing (W.setup first) reached (W.current o) ≡ place (W.setup first) (W.current first) + 1

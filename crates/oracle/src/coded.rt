@@ -5,6 +5,9 @@ ghost use Rattle.oracle.specs.Calls.{written, taken};
 use crate::walking::Walking;
 use refusals::Refusal;
 
+// The most bytes of a code. Codes are held in memory of this size, since there is no heap.
+pub const MOST_SIZE: usize = 480;
+
 pub trait Coded: Walking {
     fn size(&self) -> usize
         requires { Self.Walking.sound self.now }

@@ -5,7 +5,6 @@ pub mod coded;
 pub mod home;
 mod moves;
 pub mod outcome;
-pub mod step;
 pub mod theory;
 pub mod walk;
 pub mod walking;

@@ -4,7 +4,6 @@ ghost use Rattle.oracle.specs.Outcomes.{across, counted};
 ghost use Rattle.oracle.specs.Setup.{filled};
 ghost use Rattle.oracle.specs.Sight.{is_home};
 
-use crate::step::Step;
 use crate::walking::Walking;
 
 // A step by a slot below the width, counted: the return slot, or none at a vacant slot.
@@ -17,11 +16,7 @@ pub(crate) fn cross<O: Walking>(oracle: &mut O, slot: usize, steps: &mut u64) ->
     ensures counted { steps.new ≡ counted (steps.old + 1) }
 {
     *steps = steps.saturating_add(1);
-    match oracle.step(slot) {
-        Ok(Step::Back(back)) => Some(back),
-        Ok(Step::Vacant) => None,
-        Err(_) => None,
-    }
+    oracle.step(slot).unwrap_or(None)
 }
 
 // Whether this is the current object's home slot.
@@ -29,10 +24,7 @@ pub(crate) fn leads_home<O: Walking>(oracle: &O, slot: usize) -> bool
     requires { O.Walking.sound oracle.now }
     ensures { result ≡ is_home ((O.Walking.setup oracle.now).home (O.Walking.current oracle.now)) slot }
 {
-    match oracle.home() {
-        Some(home) => home == slot,
-        None => false,
-    }
+    oracle.home() == Some(slot)
 }
 
 // The step home from an object that has this home slot, counted: the parent is current then, and its

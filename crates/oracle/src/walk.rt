@@ -20,22 +20,21 @@ pub fn walk<O: Walking>(oracle: &mut O, from: usize) -> Outcome
     ensures next { from ≡ 0 → landing (O.Walking.setup oracle.old) result.reached (O.Walking.current oracle.new) ≡ place (O.Walking.setup oracle.old) (O.Walking.current oracle.old) + 1 }
 {
     let width = oracle.width();
-    let mut slot = from;
+    let mut next = from;
     let mut steps: u64 = 0;
     let reached = 'rising: loop {
-        'scan: while slot < width {
+        'scan: for slot in next..width {
             if let Some(back) = cross(oracle, slot, &mut steps) {
                 if leads_home(oracle, back) {
                     break 'rising Reached::Child;
                 }
                 let _ = cross(oracle, back, &mut steps);
             }
-            slot += 1;
         }
         let Some(up) = oracle.home() else {
             break 'rising Reached::End;
         };
-        slot = rise(oracle, up, &mut steps) + 1;
+        next = rise(oracle, up, &mut steps) + 1;
     };
     Outcome { reached, steps }
 }

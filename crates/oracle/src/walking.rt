@@ -4,7 +4,6 @@ ghost use Rattle.oracle.specs.Calls.{stepped};
 ghost use Rattle.oracle.specs.Laws.{Object, Lawful};
 ghost use Rattle.oracle.specs.Setup.{Code, Setup};
 
-use crate::step::Step;
 use refusals::Refusal;
 
 pub trait Walking {
@@ -13,7 +12,7 @@ pub trait Walking {
 
     ghost current: { Self → Code };
 
-    // the premise of every call: making gives it, and each call keeps it
+    // the premise of every call, a rule of the project: making gives it, and each call keeps it
     ghost sound: { Self → Type 0 };
 
     ghost lawful: { (x : Self) → sound x → Lawful (setup x) };
@@ -36,9 +35,11 @@ pub trait Walking {
         requires { sound self.now }
         ensures { result ≡ (setup self.now).home (current self.now) };
 
-    // Refused from the width on. At a vacant slot the current object stays; otherwise the neighbour
-    // becomes current.
-    fn step(&mut self, slot: usize) -> Result<Step, Refusal>
+    // Refused from the width on. At a vacant slot the answer is none and the current object stays;
+    // otherwise the neighbour becomes current, and the answer is its slot that leads back.
+    // That the set-up is the same after as before is a clause of each call: no fact of one value can say it, and
+    // a word for it would be no shorter.
+    fn step(&mut self, slot: usize) -> Result<Option<usize>, Refusal>
         requires { sound self.old }
         ensures sound { sound self.new }
         ensures setup { setup self.new ≡ setup self.old }

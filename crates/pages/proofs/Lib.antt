@@ -1,6 +1,5 @@
 pub mod Listed
 pub mod Places
-pub mod Reading
 pub mod Turned
 pub mod Passing
 pub mod Paging

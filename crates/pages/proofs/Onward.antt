@@ -1,5 +1,5 @@
 -- The pages of a whole listing.
-use Rattle.std.proofs.Common.{◌≡◌, ℕ, ◌+◌, ◌<◌, ◌≤◌, Bool, true, false, leb, List, ◌++◌, length, take, drop, is_err, Ok, Err, vec_items, vec_len, vec_capacity, Result, Vec, sym, ap, ◌∙◌, arith, length-append, length-drop, leb-false, leb-true}
+use Rattle.std.proofs.Common.{◌≡◌, ℕ, ◌+◌, ◌≤◌, Bool, true, leb, List, ◌++◌, length, take, drop, is_err, Ok, Err, vec_items, vec_len, vec_capacity, Result, Vec, sym, ap, ◌∙◌, arith, length-append, length-drop, leb-true}
 use Rattle.std.proofs.lemmas.List.{take-append-drop}
 use Rattle.std.specs.List.{concat}
 use Rattle.std.specs.declared.alloc.AllocError.{AllocError}
@@ -12,19 +12,10 @@ use Rattle.pages.specs.declared.pager.Pager.{Pager}
 
 -- behind some of the lines
 pub record Listing (O : Type 0) (W : Ghosts O) (from now : Pager O) (before out : Vec ℕ Global) : Type 0 where
-  pub sound_now : W.sound now.census.oracle
   pub setup_same : W.setup now.census.oracle ≡ W.setup from.census.oracle
   pub capacity : vec_capacity before ≤ vec_capacity out
   pub turns : ℕ
-  pub turned_so_far : (vec_items out, left W.setup W.current now) ≡ turned turns (vec_items before) (left W.setup W.current from)
-
--- a page after which lines are left leaves fewer
-pub pages_fall : (done : Bool) (n : ℕ) (bytes out : List ℕ) (lines rest : List (List ℕ)) → done ≡ leb (length lines) n → done ≡ false → 1 ≤ n → (out, rest) ≡ turned n bytes lines → length rest < length lines
-pages_fall done n bytes out lines rest tells more some e =
-    let lt : n < length lines = leb-false (length lines) n (sym tells ∙ more) in
-    let h = ap (λ x. length x.1) e in
-    let d = length-drop n lines in
-    omega arith
+  pub turned_so_far : (vec_items out, left W.setup now) ≡ turned turns (vec_items before) (left W.setup from)
 
 -- pages one after another
 pub pages_on : (k n : ℕ) (bytes mid out : List ℕ) (lines rest left : List (List ℕ)) → (mid, rest) ≡ turned n bytes lines → (out, left) ≡ turned k mid rest → (out, left) ≡ turned (n + k) bytes lines

@@ -1,8 +1,7 @@
 -- The turns of a page.
-use Rattle.std.proofs.Common.{◌≡◌, ℕ, zero, suc, ◌+◌, ◌<◌, ◌≤◌, Bool, true, false, leb, ◌⊎◌, List, [], ◌∷◌, ◌++◌, length, take, drop, is_err, Ok, Err, vec_items, vec_len, vec_capacity, Result, Vec, sym, ap, ◌∙◌, inl, inr, arith, length-append, length-drop}
+use Rattle.std.proofs.Common.{◌≡◌, ℕ, zero, suc, ◌+◌, ◌<◌, ◌≤◌, Bool, true, false, leb, ◌⊎◌, List, [], ◌∷◌, ◌++◌, length, take, drop, vec_items, vec_len, vec_capacity, Vec, sym, ap, ◌∙◌, inl, inr, arith, length-append, length-drop}
 use Rattle.std.proofs.lemmas.Bool.Decides.{nat_tests}
 use Rattle.std.specs.List.{concat}
-use Rattle.std.specs.declared.alloc.AllocError.{AllocError}
 use Rattle.std.specs.declared.alloc.Global.{Global}
 use Rattle.oracle.specs.Setup.{Setup}
 use Rattle.oracle.specs.declared.walking.Walking.{Ghosts}
@@ -10,16 +9,15 @@ use Rattle.engine.specs.View.{View}
 use Rattle.pages.proofs.Turned.{turned_all}
 use Rattle.pages.specs.Left.{left}
 use Rattle.pages.specs.Lines.{left_at}
-use Rattle.pages.specs.Turns.{turned, Filled}
+use Rattle.pages.specs.Turns.{turned}
 use Rattle.pages.specs.declared.pager.Pager.{Pager}
 
 -- behind so many lines of a page
 pub record Paging (O : Type 0) (W : Ghosts O) (from now : Pager O) (before out : Vec ℕ Global) (lines limit : ℕ) : Type 0 where
-  pub sound_now : W.sound now.census.oracle
   pub setup_same : W.setup now.census.oracle ≡ W.setup from.census.oracle
   pub within : lines ≤ limit
   pub capacity : vec_capacity before ≤ vec_capacity out
-  pub turned_so_far : (vec_items out, left W.setup W.current now) ≡ turned lines (vec_items before) (left W.setup W.current from)
+  pub turned_so_far : (vec_items out, left W.setup now) ≡ turned lines (vec_items before) (left W.setup from)
 
 -- a listing has a line left exactly if it is not done
 some_left : (xs : List (List ℕ)) (l : List ℕ) → 1 ≤ length (xs ++ (l ∷ []))
@@ -67,7 +65,3 @@ room_left k limit room before out lines rest lt cap e enough =
     let len = ap (λ x. length x.0) e in
     let sum = length-append (vec_items before) (concat (take k lines)) in
     omega (arith, before.ok.0, out.ok.0)
-
-pub stops_short : (r : Result (Unit {0}) AllocError) (k limit : ℕ) (bytes out : List ℕ) (lines rest : List (List ℕ)) (done : Bool) → is_err r ≡ true → k < limit → (out, rest) ≡ turned k bytes lines → Filled limit bytes lines r (out, rest) done
-stops_short (Ok u) k limit bytes out lines rest done e lt h = let z : ◌≡◌ {A = ℕ} 0 1 = cc in absurd (omega arith)
-stops_short (Err x) k limit bytes out lines rest done e lt h = (k, lt, h)

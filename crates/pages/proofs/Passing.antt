@@ -2,24 +2,18 @@
 use Rattle.std.proofs.Common.{◌≡◌, ℕ, ◌+◌, ◌<◌, ◌≤◌, Bool, true, false, cond, not, ltb, List, [], ◌∷◌, ◌++◌, is_some, Some, None, Option, Result, sym, refl, ap, ◌∙◌, ap₂, arith, ltb-true}
 use Rattle.std.proofs.lemmas.List.{append-nil}
 use Rattle.refusals.specs.declared.Refusal.{Refusal}
-use Rattle.oracle.specs.Laws.{Object, Lawful}
 use Rattle.oracle.specs.Outcomes.{ceiling}
 use Rattle.oracle.specs.Places.{at}
 use Rattle.oracle.specs.Setup.{Code, Setup}
 use Rattle.oracle.specs.Walk.{Spot, on, past}
-use Rattle.engine.proofs.Standings.{spot_at}
 use Rattle.engine.specs.Places.{rank_at}
 use Rattle.engine.specs.Plain.{plain_next}
-use Rattle.engine.specs.Stand.{stand_of}
-use Rattle.engine.specs.States.{spot_of}
 use Rattle.engine.specs.View.{View}
-use Rattle.engine.specs.declared.rest.Rest.{Rest}
-use Rattle.engine.specs.declared.rest.Rest.TheVariants.{Standing, Past}
 use Rattle.engine.specs.declared.tally.Tally.{Tally}
 use Rattle.lines.specs.Texts.{last_text}
 use Rattle.pages.proofs.Places.{object_left, last_left}
 use Rattle.pages.specs.Due.{due_rank}
-use Rattle.pages.specs.Lines.{line_of, spot_line, left_at}
+use Rattle.pages.specs.Lines.{line_of, left_at}
 use Rattle.pages.specs.Turns.{turned}
 
 -- a first line appended
@@ -27,45 +21,25 @@ turned_one : (bytes : List ℕ) (line : List ℕ) (more left : List (List ℕ)) 
 turned_one bytes line more left e =
     ap (λ t. (bytes ++ t, more)) (sym (append-nil line)) ∙ sym (ap (turned 1 bytes) e)
 
--- an object is due only where the census stands at it, and fewer are printed than may be
-pub record Due (s : Setup) (rest : Rest) (v : Code) (most printed rank : ℕ) : Type 0 where
+-- an object is due only where one stands, and fewer are printed than may be
+pub record Due (s : Setup) (v : View) (most printed rank : ℕ) : Type 0 where
   pub fewer : printed < most
-  pub stands : at s (stand_of s rest v).place ≡ on v
-  pub ranked : s.rank v ≡ rank
+  pub object : Code
+  pub stands : at s v.stand.place ≡ on object
 
-pub is_due : (s : Setup) → Lawful s → (rest : Rest) (v : Code) → Object s v → (t : Tally) (most printed rank : ℕ) → due_rank s (record { stand = stand_of s rest v; tally = t }) most printed ≡ Some rank → Due s rest v most printed rank
-is_due s law rest v o t most printed rank e = go (ltb printed most) refl rest (spot_at s law rest v o) e
+pub is_due : (s : Setup) (v : View) (most printed rank : ℕ) → due_rank s v most printed ≡ Some rank → Due s v most printed rank
+is_due s v most printed rank e = go (ltb printed most) refl (at s v.stand.place) refl e
   where
-    go : (b : Bool) → ltb printed most ≡ b → (r : Rest) → at s (stand_of s r v).place ≡ spot_of r v → cond (ltb printed most) (rank_at s (at s (stand_of s r v).place)) None ≡ Some rank → Due s r v most printed rank
-    go false h r here f =
-        let k = ap (λ a. cond a (rank_at s (at s (stand_of s r v).place)) None) h in
+    go : (b : Bool) → ltb printed most ≡ b → (spot : Spot) → at s v.stand.place ≡ spot → cond (ltb printed most) (rank_at s spot) None ≡ Some rank → Due s v most printed rank
+    go false h spot here f =
+        let k = ap (λ a. cond a (rank_at s spot) None) h in
         let z : ◌≡◌ {A = ℕ} 0 1 = cc in
         absurd (omega arith)
-    go true h Past here f =
-        let k = ap₂ (λ a q. cond a (rank_at s q) None) h here in
+    go true h past here f =
+        let k = ap (λ a. cond a (rank_at s past) None) h in
         let z : ◌≡◌ {A = ℕ} 0 1 = cc in
         absurd (omega arith)
-    go true h Standing here f =
-        let k = ap₂ (λ a q. cond a (rank_at s q) None) h here in
-        record { fewer = ltb-true printed most h; stands = here; ranked = cc }
-
--- a rank is answered only where the census stands at an object
-pub rank_here : (s : Setup) → Lawful s → (rest : Rest) (v : Code) → Object s v → (rank : ℕ) → Some rank ≡ rank_at s (at s (stand_of s rest v).place) → (at s (stand_of s rest v).place ≡ on v) × (s.rank v ≡ rank)
-rank_here s law rest v o rank e = go rest (spot_at s law rest v o) e
-  where
-    go : (r : Rest) → at s (stand_of s r v).place ≡ spot_of r v → Some rank ≡ rank_at s (at s (stand_of s r v).place) → (at s (stand_of s r v).place ≡ on v) × (s.rank v ≡ rank)
-    go Past here f =
-        let k = f ∙ ap (rank_at s) here in
-        let z : ◌≡◌ {A = ℕ} 0 1 = cc in
-        absurd (omega arith)
-    go Standing here f =
-        let k = f ∙ ap (rank_at s) here in
-        (here, cc)
-
--- none is answered only past the end
-pub none_here : (s : Setup) (spot : Spot) → None ≡ rank_at s spot → spot_line s spot ≡ []
-none_here s past e = refl
-none_here s (on w) e = let z : ◌≡◌ {A = ℕ} 0 1 = cc in absurd (omega arith)
+    go true h (on w) here f = record { fewer = ltb-true printed most h; object = w; stands = here }
 
 module _ (s : Setup) (v : View) (most printed : ℕ) (bytes out : List ℕ) where
   -- the line of the object at the place, and on to the next

@@ -3,8 +3,6 @@
 use Rattle.std.proofs.Common.{◌≡◌, ℕ, zero, suc, ◌+◌, ◌-◌, ◌<◌, ◌≤◌, Bool, true, false, cond, not, ltb, leb, List, [], ◌∷◌, length, drop, is_some, None, sym, refl, ap, ◌∙◌, ap₂, arith, ltb-false}
 use Rattle.std.proofs.lemmas.List.{drop-drop}
 use Rattle.std.proofs.lemmas.Bool.Decides.{nat_tests}
-use Rattle.oracle.proofs.Complete.{complete}
-use Rattle.oracle.specs.Laws.{Object, Lawful}
 use Rattle.oracle.specs.Listing.{listing}
 use Rattle.oracle.specs.Outcomes.{ceiling, counted}
 use Rattle.oracle.specs.Places.{first_of, at_place, at}
@@ -12,11 +10,8 @@ use Rattle.oracle.specs.Setup.{Code, Setup}
 use Rattle.oracle.specs.Walk.{Spot, on, past, walk}
 use Rattle.engine.specs.Places.{rank_at, next_from}
 use Rattle.engine.specs.Plain.{plain_next}
-use Rattle.engine.specs.Stand.{stand_of}
 use Rattle.engine.specs.Tallies.{booked, booked_from}
 use Rattle.engine.specs.View.{View, begun}
-use Rattle.engine.specs.declared.rest.Rest.{Rest}
-use Rattle.engine.specs.declared.rest.Rest.TheVariants.{Standing, Past}
 use Rattle.engine.specs.declared.tally.Tally.{Tally}
 use Rattle.lines.specs.Texts.{last_text}
 use Rattle.pages.proofs.Listed.{lines_more, lines_full, lines_none, from_first}
@@ -104,10 +99,6 @@ module _ (s : Setup) where
           ap (lines_from s (most - printed) printed t) (ahead_none v.stand.place from e)
           ∙ lines_none s (most - printed) printed t
           ∙ ap (λ x. last_text true printed x ∷ []) steps
-
-  pub place_from_one : Lawful s → (rest : Rest) (v : Code) → Object s v → 1 ≤ (stand_of s rest v).place
-  place_from_one law Standing v o = (complete s law).place_from v o
-  place_from_one law Past v o = omega arith
 
 -- a listing that begins
 pub begins_left : (s now : Setup) (v : View) (most : ℕ) → now ≡ s → v ≡ begun s → left_at now v most 0 false ≡ all_lines s most

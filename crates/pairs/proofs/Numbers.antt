@@ -1,5 +1,5 @@
 -- The rule of the table of pairs, and the order of their numbers. Assumes nothing.
-use Rattle.std.proofs.Common.{◌≡◌, ℕ, zero, suc, ◌+◌, ◌-◌, ◌*◌, ◌/◌, ◌<◌, ◌≤◌, Bool, true, ◌&&◌, eqb, ltb, ◌⊎◌, length, sym, refl, ap, ◌∙◌, inl, inr, arith}
+use Rattle.std.proofs.Common.{◌≡◌, ℕ, zero, suc, ◌+◌, ◌-◌, ◌*◌, ◌/◌, ◌<◌, ◌≤◌, Bool, true, ◌&&◌, eqb, ltb, ◌⊎◌, length, sym, refl, ap, ◌∙◌, inl, inr, add-one, arith}
 use Rattle.std.proofs.lemmas.List.{get_or_past}
 use Rattle.std.proofs.lemmas.Bool.{ltb-true, eqb-true, and_parts, cases_order, cases_lt}
 use Rattle.pairs.specs.Pairs.{pair_count, number, pairs_below, corners_of, Entry}
@@ -40,7 +40,7 @@ entry e h =
     let u = and_parts (ltb (corners_of e).1 24) _ t.1 in
     record { ascending = ltb-true _ _ t.0; within = ltb-true _ _ u.0; numbered = eqb-true _ _ u.1 }
 
-length_table : length (pairs_below 24) ≡ 276
+pub length_table : length (pairs_below 24) ≡ 276
 unfolding pairs_below
 length_table = refl
 
@@ -50,14 +50,14 @@ corners_past e h = get_or_past (pairs_below 24) e (0, 0) (omega (arith, length_t
 
 -- ---- the order of the numbers
 
-pub pair_count_more : (b : ℕ) → pair_count (suc b) ≡ pair_count b + b
+pub pair_count_more : (b : ℕ) → pair_count (b + 1) ≡ pair_count b + b
 unfolding pair_count
 pair_count_more zero = refl
 pair_count_more (suc k) =
-    let e : suc (suc k) - 1 ≡ suc k = omega arith in
+    let e : suc k + 1 - 1 ≡ suc k = omega arith in
     let f : suc k - 1 ≡ k = omega arith in
-    let g : suc (suc k) * suc k / 2 ≡ suc k * k / 2 + suc k = omega arith in
-    ap (λ (x : ℕ). suc (suc k) * x / 2) e ∙ g ∙ ap (λ (x : ℕ). suc k * x / 2 + suc k) (sym f)
+    let g : (suc k + 1) * suc k / 2 ≡ suc k * k / 2 + suc k = omega arith in
+    ap (λ (x : ℕ). (suc k + 1) * x / 2) e ∙ g ∙ ap (λ (x : ℕ). suc k * x / 2 + suc k) (sym f)
 
 pub pair_count_mono : (b c : ℕ) → b ≤ c → pair_count b ≤ pair_count c
 pair_count_mono b zero h = let e : b ≡ 0 = omega arith in omega (arith, ap pair_count e)
@@ -65,13 +65,13 @@ pair_count_mono b (suc c) h = go (cases_order b (suc c)) (pair_count_mono b c)
   where
     go : (b ≡ suc c) ⊎ ((b < suc c) ⊎ (suc c < b)) → (b ≤ c → pair_count b ≤ pair_count c) → pair_count b ≤ pair_count (suc c)
     go (inl q) ih = omega (arith, ap pair_count q)
-    go (inr (inl m)) ih = omega (arith, ih (omega arith), pair_count_more c)
+    go (inr (inl m)) ih = omega (arith, ih (omega arith), pair_count_more c, ap pair_count (add-one c))
     go (inr (inr m)) ih = absurd (omega arith)
 
 -- the pairs of a later second corner have the larger numbers
 pub number_below : (a b c : ℕ) → a < b → b < c → number a b < pair_count c
 unfolding number
-number_below a b c h l = omega (arith, pair_count_more b, pair_count_mono (suc b) c l)
+number_below a b c h l = omega (arith, pair_count_more b, pair_count_mono (b + 1) c (omega arith))
 
 pub number_later : (a b x c : ℕ) → a < b → b < c → number a b < number x c
 unfolding number

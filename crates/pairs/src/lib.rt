@@ -4,8 +4,11 @@
 ghost use Rattle.std.specs.Prelude.{◌≡◌, ◌^◌, ◌<◌};
 ghost use Rattle.pairs.specs.Pairs.{number, corners_of, pair_count, Entry};
 
+// How many pairs there are.
+pub const PAIRS: usize = 276;
+
 // Every pair, in order of its number b(b - 1)/2 + a: one line for each b.
-const PAIRS: [(u32, u32); 276] = [
+static TABLE: [(u32, u32); PAIRS] = [
     (0, 1),
     (0, 2),
     (1, 2),
@@ -284,23 +287,17 @@ const PAIRS: [(u32, u32); 276] = [
     (22, 23),
 ];
 
-// The corners of pair number e.
-fn pair_at(e: usize) -> (u32, u32)
-    requires { e < 276 }
-    ensures value { result ≡ corners_of e }
-    ensures rule { Entry e result }
-{
-    let table: &[(u32, u32); 276] = &PAIRS;
-    // part by part: a pair that is copied whole is compiled to one word, which each use then splits
-    (table[e].0, table[e].1)
-}
-
-// The corners of pair number e; a number past the last pair has none, which reads (0, 0).
+// The corners of pair number e; a number past the last pair has none, which reads (0, 0), since
+// the call never fails.
 pub fn corners(e: usize) -> (u32, u32)
     ensures value { result ≡ corners_of e }
-    ensures rule { e < 276 → Entry e result }
+    ensures rule { e < PAIRS → Entry e result }
 {
-    if e < 276 { pair_at(e) } else { (0, 0) }
+    // part by part: a pair that is copied whole is compiled to one word, which each use then splits
+    match TABLE.get(e) {
+        Some(&(a, b)) => (a, b),
+        None => (0, 0),
+    }
 }
 
 // The number of the pair (a, b).

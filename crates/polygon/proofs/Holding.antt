@@ -3,7 +3,6 @@ use Rattle.std.proofs.Common.{◌≡◌, ℕ, ◌<◌, ◌≤◌, Bool, true, fa
 use Rattle.std.proofs.lemmas.Bool.{cases_lt, cond-true, cond-false, eq-eqb}
 use Rattle.pairs.proofs.Numbers.{entry, corners_past, corners_below, pair_count_limit}
 use Rattle.pairs.specs.Pairs.{corners_of, pair_count}
-use Rattle.triangulations.proofs.Tests.{diagonal_decides}
 use Rattle.triangulations.specs.Polygon.{is_diagonal}
 use Rattle.polygon.specs.Rows.{linked, set_of}
 
@@ -15,15 +14,11 @@ pub set_of_out : (n : ℕ) (rows : List ℕ) (e : ℕ) → is_diagonal n (corner
 unfolding set_of
 set_of_out n rows e h = cond-false (is_diagonal n (corners_of e)) (linked rows (corners_of e).0 (corners_of e).1) 0 h
 
--- the corners of a diagonal index the rows
-pub diagonal_small : (n : ℕ) (p : ℕ × ℕ) → n ≤ 24 → is_diagonal n p ≡ true → (p.0 < 24) × (p.1 < 24) × (p.0 < p.1)
-diagonal_small n p few h = let d = (diagonal_decides n p).0 h in (omega arith, omega arith, d.0)
-
--- the corners of any number index the rows
-pub corners_limit : (e : ℕ) (p : ℕ × ℕ) → p ≡ corners_of e → (p.0 < 24) × (p.1 < 24)
+-- the corners of any number are in order and index the rows
+pub corners_limit : (e : ℕ) (p : ℕ × ℕ) → p ≡ corners_of e → (p.0 ≤ p.1) × (p.1 < 24)
 corners_limit e p at = go (cases_lt e 276)
   where
-    go : (e < 276) ⊎ (276 ≤ e) → (p.0 < 24) × (p.1 < 24)
+    go : (e < 276) ⊎ (276 ≤ e) → (p.0 ≤ p.1) × (p.1 < 24)
     go (inl h) =
         let t = entry e h in
         let low = ap (λ (q : ℕ × ℕ). q.0) at in

@@ -1,5 +1,5 @@
 -- A byte of the code, read from the digits of one second corner after the other.
-use Rattle.std.proofs.Common.{◌≡◌, ℕ, ◌+◌, ◌-◌, ◌*◌, ◌/◌, ◌%◌, ◌^◌, ◌<◌, ◌≤◌, Bool, true, false, ◌⊎◌, List, get_or, sym, refl, ap, ◌∙◌, inl, inr, mod-lt, add-one, arith}
+use Rattle.std.proofs.Common.{◌≡◌, ℕ, ◌+◌, ◌-◌, ◌*◌, ◌/◌, ◌%◌, ◌^◌, ◌<◌, ◌≤◌, Bool, true, false, ◌⊎◌, List, get_or, sym, refl, ap, ◌∙◌, inl, inr, mod-lt, arith}
 use lib.Bits.{bit_or}
 use Rattle.std.proofs.lemmas.Nat.{pow_pos}
 use Rattle.std.proofs.lemmas.Bool.{cases_lt}
@@ -20,10 +20,6 @@ use Rattle.polygon.proofs.Holding.{set_of_out}
 use Rattle.polygon.proofs.Words.{bit_shr}
 use Rattle.polygon.specs.Laws.{set_of_small, set_of_past}
 use Rattle.polygon.specs.Rows.{set_of, end_of}
-
--- the pairs of second corner b follow those below it
-pub count_next : (b : ℕ) → pair_count (b + 1) ≡ pair_count b + b
-count_next b = ap pair_count (add-one b) ∙ pair_count_more b
 
 module _ (n : ℕ) (rows : List ℕ) where
   -- no pair from the width on is in the set
@@ -73,10 +69,10 @@ module _ (n : ℕ) (rows : List ℕ) where
       go : (x < b) ⊎ (b ≤ x) → end_of n rows b x ≡ first_of (set_of n rows) (pair_count (b + 1)) (pair_count b + x)
       go (inl h) =
           end_in n rows b x h
-          ∙ sym (first_under (set_of n rows) (pair_count (b + 1)) (pair_count b + x) (omega (arith, count_next b)))
+          ∙ sym (first_under (set_of n rows) (pair_count (b + 1)) (pair_count b + x) (omega (arith, pair_count_more b)))
       go (inr h) =
           end_out n rows b x h
-          ∙ sym (first_over (set_of n rows) (pair_count (b + 1)) (pair_count b + x) (omega (arith, count_next b)))
+          ∙ sym (first_over (set_of n rows) (pair_count (b + 1)) (pair_count b + x) (omega (arith, pair_count_more b)))
 
   module _ (k b w : ℕ) (ends : (x : ℕ) → bit w x ≡ end_of n rows b x) where
     pub read_start : (a : ℕ) → number a b ≡ 8 * k → Read k (pair_count (b + 1)) (w / 2 ^ a)
@@ -99,7 +95,7 @@ module _ (n : ℕ) (rows : List ℕ) where
             bit_shl_low w read i h,
             so_far i,
             first_under (set_of n rows) (pair_count b) (8 * k + i) (omega arith),
-            first_under (set_of n rows) (pair_count (b + 1)) (8 * k + i) (omega (arith, count_next b)),
+            first_under (set_of n rows) (pair_count (b + 1)) (8 * k + i) (omega (arith, pair_count_more b)),
           )
       next i (inr h) (inl m) =
           let e : read + (i - read) ≡ i = omega arith in
@@ -123,7 +119,7 @@ module _ (n : ℕ) (rows : List ℕ) where
             bit_mod_past 32 (w * 2 ^ read) i m,
             so_far i,
             first_over (set_of n rows) (pair_count b) (8 * k + i) (omega arith),
-            first_over (set_of n rows) (pair_count (b + 1)) (8 * k + i) (omega (arith, count_next b)),
+            first_over (set_of n rows) (pair_count (b + 1)) (8 * k + i) (omega (arith, pair_count_more b)),
           )
 
       pub read_more : Read k (pair_count (b + 1)) (bit_or digits ((w * 2 ^ read) % 2 ^ 32))

@@ -1,7 +1,7 @@
 -- The rows of the sides alone.
-use Rattle.std.proofs.Common.{◌≡◌, ℕ, ◌+◌, ◌-◌, ◌^◌, ◌<◌, ◌≤◌, ◌⊎◌, List, length, get_or, set, sym, ap, ◌∙◌, inl, inr, arith}
+use Rattle.std.proofs.Common.{◌≡◌, ℕ, ◌+◌, ◌-◌, ◌^◌, ◌<◌, ◌≤◌, ◌⊎◌, List, length, get_or, sym, ap, ◌∙◌, inl, inr, arith}
 use lib.Bits.{bit_or}
-use Rattle.std.proofs.lemmas.List.{get_or-set_same, get_or-set_other, length-set}
+use Rattle.std.proofs.lemmas.List.{get_or_past}
 use Rattle.std.proofs.lemmas.Bool.{cases_lt, cases_eq}
 use Rattle.digits.proofs.Digits.{bit-or, bit_pow_same, bit_pow_other, bit_small, bit_zero}
 use Rattle.digits.specs.Bits.{bit}
@@ -73,32 +73,12 @@ module _ (n a p q : ℕ) (large : 3 ≤ n) (in-n : a < n) (before : Before n a p
           (arith, bit-or (2 ^ p) (2 ^ q) b, ap (bit (2 ^ q)) k, bit_pow_same q, bit_small (2 ^ p) b, ap (joined n bare a) k, joined-after)
       go (inr h) (inr k) = omega (arith, bit-or (2 ^ p) (2 ^ q) b, bit_pow_other p b h, bit_pow_other q b k, joined-else b h k)
 
--- the rows below a are done, the others are still 0
-pub record Done (n : ℕ) (rows : List ℕ) (a : ℕ) : Type 0 where
-  pub long : length rows ≡ 24
-  pub below : (x y : ℕ) → x < a → linked rows x y ≡ joined n bare x y
-  pub above : (x : ℕ) → a ≤ x → get_or rows x 0 ≡ 0
+pub side_row_past : (n a : ℕ) → n ≤ a → (b : ℕ) → bit 0 b ≡ joined n bare a b
+side_row_past n a h b = bit_zero b ∙ sym (joined_past n bare a b h)
 
-pub done_more : (n : ℕ) (rows : List ℕ) (a r : ℕ) → a < 24 → Done n rows a → ((b : ℕ) → bit r b ≡ joined n bare a b) → Done n (set rows a r) (a + 1)
-done_more n rows a r l d e =
-    record {
-      long = length-set rows a r ∙ d.long;
-      below = λ x y h. go x y h (cases_eq x a);
-      above = λ x h. get_or-set_other rows a x r 0 (λ q. omega arith) ∙ d.above x (omega arith);
-    }
+pub side_rows_tied : (n : ℕ) (rows : List ℕ) → n ≤ 24 → length rows ≡ 24 → ((x : ℕ) → x < 24 → (b : ℕ) → bit (get_or rows x 0) b ≡ joined n bare x b) → Tied n bare rows
+side_rows_tied n rows few long each x y = go (cases_lt x 24)
   where
-    in_rows : a < length rows
-    in_rows = omega (arith, d.long)
-
-    go : (x y : ℕ) → x < a + 1 → (x ≡ a) ⊎ (x ≡ a → ⊥) → linked (set rows a r) x y ≡ joined n bare x y
-    go x y h (inl q) =
-        ap (λ (z : ℕ). linked (set rows a r) z y) q ∙ ap (λ (z : ℕ). bit z y) (get_or-set_same rows a r 0 in_rows) ∙ e y
-        ∙ ap (λ (z : ℕ). joined n bare z y) (sym q)
-    go x y h (inr q) = ap (λ (z : ℕ). bit z y) (get_or-set_other rows a x r 0 q) ∙ d.below x y (omega arith)
-
-pub done_all : (n : ℕ) (rows : List ℕ) → Done n rows n → Tied n bare rows
-done_all n rows d x y = go (cases_lt x n)
-  where
-    go : (x < n) ⊎ (n ≤ x) → linked rows x y ≡ joined n bare x y
-    go (inl h) = d.below x y h
-    go (inr h) = ap (λ (z : ℕ). bit z y) (d.above x h) ∙ bit_zero y ∙ sym (joined_past n bare x y h)
+    go : (x < 24) ⊎ (24 ≤ x) → linked rows x y ≡ joined n bare x y
+    go (inl h) = each x h y
+    go (inr h) = ap (λ (z : ℕ). bit z y) (get_or_past rows x 0 (omega arith)) ∙ side_row_past n x (omega arith) y

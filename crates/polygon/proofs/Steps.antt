@@ -227,15 +227,6 @@ module _ (n : ℕ) (S : PairSet) (rows : List ℕ) (k : Kept n S rows) (e : ℕ)
   -- ---- as the code goes, with the corners r of the pair and the two corners q that it finds
 
   module _ (r : ℕ × ℕ) (at : r ≡ corners_of e) where
-    pub corners_small : (r.0 < 24) × (r.1 < 24)
-    corners_small =
-        let x = ap (λ (p : ℕ × ℕ). p.0) at in
-        let y = ap (λ (p : ℕ × ℕ). p.1) at in
-        (omega (arith, d.0, d.1), omega (arith, d.1))
-
-    pub common_positive : 0 < common rows r.0 r.1
-    common_positive = subst (λ (p : ℕ × ℕ). 0 < common rows p.0 p.1) (sym at) word_positive
-
     module _ (q : ℕ × ℕ) (lowest : q ≡ two_lowest (common rows r.0 r.1)) where
       pub apexes_found : Found q.0 q.1
       apexes_found =

@@ -1,5 +1,6 @@
 -- A row of bytes judged over its rows, and taken.
-use Rattle.std.proofs.Common.{◌≡◌, ℕ, suc, ◌<◌, ◌≤◌, Bool, true, false, eqb, List, [], ◌∷◌, length, get_or, Ok, Err, sym, refl, ap, ◌∙◌}
+use Rattle.std.proofs.Common.{◌≡◌, ℕ, suc, ◌<◌, ◌≤◌, Bool, true, false, ◌&&◌, eqb, List, [], ◌∷◌, length, get_or, Ok, Err, sym, refl, ap, ◌∙◌}
+use mir.Val.{bool_byte}
 use Rattle.std.specs.List.{AllByRecursion}
 use Rattle.oracle.specs.Calls.{taken}
 use Rattle.oracle.specs.Setup.{Code}
@@ -35,6 +36,22 @@ module _ (n : ℕ) (v : Code) (rows : List ℕ) (e : ℕ) where
   pub fits_bound : is_diagonal n (corners_of e) ≡ true → is_free rows (corners_of e).0 (corners_of e).1 ≡ false → fits n v rows e ≡ eqb (members v e) 0
   unfolding judge
   fits_bound h f = fits-at true h ∙ ap judge f
+
+  -- the test of a pair with the corners p
+  pub fits_test : (p : ℕ × ℕ) → p ≡ corners_of e → (b : Bool) → b ≡ (is_diagonal n p && is_free rows p.0 p.1) → eqb (members v e) (bool_byte b) ≡ fits n v rows e
+  fits_test p at b q = go (is_diagonal n (corners_of e)) refl (is_free rows (corners_of e).0 (corners_of e).1) refl
+    where
+      test : b ≡ (is_diagonal n (corners_of e) && is_free rows (corners_of e).0 (corners_of e).1)
+      test = q ∙ ap (λ (r : ℕ × ℕ). is_diagonal n r && is_free rows r.0 r.1) at
+
+      same : (c : Bool) → b ≡ c → eqb (members v e) (bool_byte b) ≡ eqb (members v e) (bool_byte c)
+      same c h = ap (λ (x : Bool). eqb (members v e) (bool_byte x)) h
+
+      go : (d : Bool) → is_diagonal n (corners_of e) ≡ d → (f : Bool) → is_free rows (corners_of e).0 (corners_of e).1 ≡ f
+          → eqb (members v e) (bool_byte b) ≡ fits n v rows e
+      go false h f k = same false (test ∙ ap (λ (x : Bool). x && is_free rows (corners_of e).0 (corners_of e).1) h) ∙ sym (fits_not h)
+      go true h true k = same true (test ∙ ap (λ (x : Bool). x && is_free rows (corners_of e).0 (corners_of e).1) h ∙ k) ∙ sym (fits_free h k)
+      go true h false k = same false (test ∙ ap (λ (x : Bool). x && is_free rows (corners_of e).0 (corners_of e).1) h ∙ k) ∙ sym (fits_bound h k)
 
 pub take_refused : (n : ℕ) (v row : Code) → is_object n row ≡ false → (Err NotACode, v) ≡ taken (polygon n) v row
 take_refused n v row e =

@@ -1,9 +1,9 @@
 -- Words of digits.
-use Rattle.std.proofs.Common.{◌≡◌, ℕ, zero, suc, ◌+◌, ◌-◌, ◌/◌, ◌%◌, ◌^◌, ◌<◌, ◌≤◌, ◌⊎◌, sym, ap, ◌∙◌, inl, inr, lt_of_lt_of_le, mod-lt, pow-suc, arith, pow_pos, pow_mono, shr-shr}
-use lib.Bits.{bit_and, bit_xor}
+use Rattle.std.proofs.Common.{◌≡◌, ℕ, zero, suc, ◌+◌, ◌-◌, ◌/◌, ◌%◌, ◌^◌, ◌<◌, ◌≤◌, ◌⊎◌, sym, ap, ◌∙◌, refl, inl, inr, lt_of_lt_of_le, lt_of_le_of_lt, mod-lt, pow-suc, arith, pow_pos, pow_mono, shr-shr}
+use lib.Bits.{bit_and, bit_xor, and_le_l}
 use lib.Count.{count_trailing_zeros}
 use Rattle.std.proofs.lemmas.Bool.{cases_lt, cases_eq}
-use Rattle.digits.proofs.Digits.{bit_first, bit_suc, bit_zero, bit_past, bit_mod, bit_mod_past, same_bits, Lowest, trailing_is, clear_flip, flip_same, flip_other, flip_lt}
+use Rattle.digits.proofs.Digits.{bit-and, bit_small, bit_first, bit_suc, bit_zero, bit_past, bit_mod, bit_mod_past, same_bits, Lowest, trailing_is, clear_flip, flip_same, flip_other, flip_lt}
 use Rattle.digits.specs.Bits.{bit}
 
 -- ---- how long a word is
@@ -98,3 +98,42 @@ module _ (s p q : ℕ) (limit : s < 2 ^ 32) (order : p < q) (first : bit s p ≡
       ap (count_trailing_zeros 32) rest
       ∙ rest-only (count_trailing_zeros 32 (bit_xor s (2 ^ p)))
       (trailing_is 32 (bit_xor s (2 ^ p)) (bit_positive (bit_xor s (2 ^ p)) q rest-second) (flip_lt 32 s p limit p-in)).1
+
+-- ---- the second one of any word
+
+module _ (s : ℕ) (limit : s < 2 ^ 32) (second : count_trailing_zeros 32 (bit_and s (s - 1)) < 32) where
+  pub second_positive : 0 < s
+  unfolding count_trailing_zeros
+  second_positive = go (cases_lt 0 s)
+    where
+      go : (0 < s) ⊎ (s ≤ 0) → 0 < s
+      go (inl h) = h
+      go (inr h) =
+          let z : s ≡ 0 = omega arith in
+          let none : count_trailing_zeros 32 (bit_and 0 (0 - 1)) ≡ 32 = refl in
+          absurd (omega (arith, ap (λ (x : ℕ). count_trailing_zeros 32 (bit_and x (x - 1))) z, none))
+
+  rest-positive : 0 < bit_and s (s - 1)
+  unfolding count_trailing_zeros
+  rest-positive = go (cases_lt 0 (bit_and s (s - 1)))
+    where
+      go : (0 < bit_and s (s - 1)) ⊎ (bit_and s (s - 1) ≤ 0) → 0 < bit_and s (s - 1)
+      go (inl h) = h
+      go (inr h) =
+          let z : bit_and s (s - 1) ≡ 0 = omega arith in
+          let none : count_trailing_zeros 32 0 ≡ 32 = refl in
+          absurd (omega (arith, ap (count_trailing_zeros 32) z, none))
+
+  pub second_later : count_trailing_zeros 32 s ≤ count_trailing_zeros 32 (bit_and s (s - 1))
+  second_later = go (cases_lt (count_trailing_zeros 32 (bit_and s (s - 1))) (count_trailing_zeros 32 s))
+    where
+      q : ℕ
+      q = count_trailing_zeros 32 (bit_and s (s - 1))
+
+      here : bit (bit_and s (s - 1)) q ≡ 1
+      here = (trailing_is 32 (bit_and s (s - 1)) rest-positive (lt_of_le_of_lt (and_le_l s (s - 1)) limit)).1
+
+      go : (q < count_trailing_zeros 32 s) ⊎ (count_trailing_zeros 32 s ≤ q) → count_trailing_zeros 32 s ≤ q
+      go (inl h) =
+          absurd (omega (arith, here, bit-and s (s - 1) q, bit_small (s - 1) q, (trailing_is 32 s second_positive limit).2 q h))
+      go (inr h) = h

@@ -10,11 +10,11 @@ use Rattle.polygon.specs.declared.subject.Polygon.{Polygon}
 
 -- The code of the current triangulation.
 abbrev pub current_of : Polygon → Code
-current_of p = code_of (set_of p.n p.rows)
+current_of p = code_of (set_of p.outline.n p.rows.0)
 
 -- The set-up and the current object of what making gives, or its refusal.
 abbrev pub seen : Result Polygon Refusal → Result (Setup × Code) Refusal
-seen (Ok p) = Ok (polygon p.n, current_of p)
+seen (Ok p) = Ok (polygon p.outline.n, current_of p)
 seen (Err k) = Err k
 
 -- A polygon of 3 to 24 corners stands at its root.

@@ -1,8 +1,10 @@
 //! Triangulations of a convex polygon as an adjacency oracle.
 #![tactic(auto)]
 
+mod chord;
 mod coding;
 mod making;
+mod outline;
 mod rows;
 mod subject;
 mod walking;

@@ -4,9 +4,9 @@ ghost use Rattle.polygon.specs.Rows.{set_of};
 ghost use Rattle.polygon.specs.Views.{begun, seen};
 ghost use Rattle.triangulations.specs.Statements.{Stands};
 
-use super::rows::{are_joined, fan_rows, is_diagonal};
+use super::chord::Chord;
+use super::outline::Outline;
 use super::subject::Polygon;
-use pairs::corners;
 use refusals::Refusal;
 
 impl Polygon {
@@ -15,18 +15,20 @@ impl Polygon {
         ensures made { seen result ≡ begun n }
         ensures stands { 3 ≤ n → n ≤ 24 → Stands n }
     {
+        // the reader of sheets has the same limits and knows no polygon
         if n < 3 || n > 24 {
             return Err(Refusal::OutOfRange);
         }
-        let rows = fan_rows(n);
-        Ok(Polygon { n, rows })
+        let outline = Outline { n };
+        let rows = outline.fan_rows();
+        Ok(Polygon { outline, rows })
     }
 
     // Whether pair e is in the current set. Most pairs are not joined, so that is asked first.
     pub(crate) fn has(&self, e: usize) -> bool
-        ensures { result ≡ (set_of self.now.n self.now.rows e == 1) }
+        ensures { result ≡ (set_of self.now.outline.n self.now.rows.0 e == 1) }
     {
-        let (a, b) = corners(e);
-        are_joined(&self.rows, a, b) && is_diagonal(self.n, a, b)
+        let line = Chord::at(e);
+        self.rows.are_joined(line) && self.outline.is_diagonal(line)
     }
 }

@@ -1,8 +1,7 @@
 //! In a polygon of four corners the diagonals are 1 (0, 2) and 4 (1, 3); in one of five corners 1 (0, 2),
 //! 3 (0, 3), 4 (1, 3), 7 (1, 4) and 8 (2, 4). A set is the number in which pair e has the weight 2 to the
-//! power e, and 99 stands for no slot.
+//! power e.
 use oracle::coded::Coded;
-use oracle::step::Step;
 use oracle::walking::Walking;
 use polygon::Polygon;
 use refusals::Refusal;
@@ -30,28 +29,26 @@ fn current(polygon: &Polygon) -> Result<u16, Refusal> {
 }
 
 // Where a slot leads, with the return slot.
-fn across(n: u32, set: u16, slot: usize) -> Result<(u16, usize), Refusal> {
+fn across(n: u32, set: u16, slot: usize) -> Result<(u16, Option<usize>), Refusal> {
     let mut polygon = standing_at(n, set)?;
-    match polygon.step(slot)? {
-        Step::Back(back) => Ok((current(&polygon)?, back)),
-        Step::Vacant => Ok((current(&polygon)?, 99)),
-    }
+    let back = polygon.step(slot)?;
+    Ok((current(&polygon)?, back))
 }
 
 #[test]
 fn neighbours(rt: HostRuntime) -> Result<(), Fail> {
     // the corners, a set, a slot, the set that it leads to, the return slot
     let table = [
-        (3u32, 0u16, 2usize, 0u16, 99usize),
-        (4, 1 << 1, 0, 1 << 1, 99),
-        (4, 1 << 1, 1, 1 << 4, 4),
-        (4, 1 << 4, 4, 1 << 1, 1),
-        (5, 1 << 1 | 1 << 3, 1, 1 << 3 | 1 << 4, 4),
-        (5, 1 << 1 | 1 << 3, 3, 1 << 1 | 1 << 8, 8),
-        (5, 1 << 3 | 1 << 4, 3, 1 << 4 | 1 << 7, 7),
-        (5, 1 << 4 | 1 << 7, 4, 1 << 7 | 1 << 8, 8),
-        (5, 1 << 7 | 1 << 8, 7, 1 << 1 | 1 << 8, 1),
-        (5, 1 << 7 | 1 << 8, 3, 1 << 7 | 1 << 8, 99),
+        (3u32, 0u16, 2usize, 0u16, None),
+        (4, 1 << 1, 0, 1 << 1, None),
+        (4, 1 << 1, 1, 1 << 4, Some(4)),
+        (4, 1 << 4, 4, 1 << 1, Some(1)),
+        (5, 1 << 1 | 1 << 3, 1, 1 << 3 | 1 << 4, Some(4)),
+        (5, 1 << 1 | 1 << 3, 3, 1 << 1 | 1 << 8, Some(8)),
+        (5, 1 << 3 | 1 << 4, 3, 1 << 4 | 1 << 7, Some(7)),
+        (5, 1 << 4 | 1 << 7, 4, 1 << 7 | 1 << 8, Some(8)),
+        (5, 1 << 7 | 1 << 8, 7, 1 << 1 | 1 << 8, Some(1)),
+        (5, 1 << 7 | 1 << 8, 3, 1 << 7 | 1 << 8, None),
     ];
     for (n, set, slot, to, back) in table {
         assert!(rt; across(n, set, slot)? == (to, back));
@@ -63,18 +60,18 @@ fn neighbours(rt: HostRuntime) -> Result<(), Fail> {
 fn homes(rt: HostRuntime) -> Result<(), Fail> {
     // the corners, a set, its home slot and its rank; the fan is the root
     let table = [
-        (3u32, 0u16, 99usize, 0u32),
-        (4, 1 << 1, 99, 0),
-        (4, 1 << 4, 4, 1),
-        (5, 1 << 1 | 1 << 3, 99, 0),
-        (5, 1 << 3 | 1 << 4, 4, 1),
-        (5, 1 << 4 | 1 << 7, 7, 2),
-        (5, 1 << 1 | 1 << 8, 8, 1),
-        (5, 1 << 7 | 1 << 8, 7, 2),
+        (3u32, 0u16, None, 0u32),
+        (4, 1 << 1, None, 0),
+        (4, 1 << 4, Some(4), 1),
+        (5, 1 << 1 | 1 << 3, None, 0),
+        (5, 1 << 3 | 1 << 4, Some(4), 1),
+        (5, 1 << 4 | 1 << 7, Some(7), 2),
+        (5, 1 << 1 | 1 << 8, Some(8), 1),
+        (5, 1 << 7 | 1 << 8, Some(7), 2),
     ];
     for (n, set, home, rank) in table {
         let polygon = standing_at(n, set)?;
-        assert!(rt; polygon.home().unwrap_or(99) == home && polygon.rank() == rank);
+        assert!(rt; polygon.home() == home && polygon.rank() == rank);
     }
     Ok(())
 }

@@ -1,7 +1,7 @@
 //! Sheets and protocols with what the rules print of them.
 use lines::{hex_line, last_line};
 use printouts::{list_sheet, replay_sheet};
-use protocols::{Protocol, read_protocol};
+use protocols::{ProtocolError, read_protocol};
 use std::process::Abort;
 use std::test::Fail;
 
@@ -26,11 +26,14 @@ fn replayed(
     Ok(())
 }
 
-// The line of a protocol that is unreadable, or 0.
-fn unreadable(rt: &HostRuntime, text: &[u8]) -> Result<u64, Fail> {
-    match read_protocol(rt.alloc(), text)? {
-        Protocol::Calls(_) => Ok(0),
-        Protocol::Unreadable(n) => Ok(n),
+// The line of a protocol that is unreadable, if one is.
+fn unreadable(rt: &HostRuntime, text: &[u8]) -> Result<Option<u64>, Fail> {
+    match read_protocol(rt.alloc(), text) {
+        Err(ProtocolError::Unreadable(line)) => Ok(Some(line)),
+        read => {
+            let _calls = read?;
+            Ok(None)
+        }
     }
 }
 
@@ -95,24 +98,33 @@ fn acts(rt: HostRuntime) -> Result<(), Fail> {
 // Protocols, and the line of each that is unreadable.
 #[test]
 fn lines_of_a_protocol(rt: HostRuntime) -> Result<(), Fail> {
-    let cases: [(&str, u64); 13] = [
-        ("", 0),
-        ("next\nrestart\ntally\nread 3\nsave 4294967295 2\n", 0),
-        ("resume 0 00ff9a\nresume 7 -\nread 65536\n", 0),
-        ("\n", 1),
-        ("next\nnext", 2),
-        ("next \n", 1),
-        ("read 0\nread 65537\n", 2),
-        ("read 03\n", 1),
-        ("save 4294967296 1\n", 1),
-        ("save 1  1\n", 1),
-        ("resume 1 abc\n", 1),
-        ("resume 1 AB\n", 1),
-        ("resume 1 \n", 1),
+    let cases: [(&str, Option<u64>); 13] = [
+        ("", None),
+        ("next\nrestart\ntally\nread 3\nsave 4294967295 2\n", None),
+        ("resume 0 00ff9a\nresume 7 -\nread 65536\n", None),
+        ("\n", Some(1)),
+        ("next\nnext", Some(2)),
+        ("next \n", Some(1)),
+        ("read 0\nread 65537\n", Some(2)),
+        ("read 03\n", Some(1)),
+        ("save 4294967296 1\n", Some(1)),
+        ("save 1  1\n", Some(1)),
+        ("resume 1 abc\n", Some(1)),
+        ("resume 1 AB\n", Some(1)),
+        ("resume 1 \n", Some(1)),
     ];
     for (text, line) in cases {
         assert_eq!(rt; unreadable(&rt, text.as_bytes())?, line);
     }
+    Ok(())
+}
+
+#[test]
+fn errors(rt: HostRuntime) -> Result<(), Fail> {
+    let line = format!(in rt.alloc(); "{}", ProtocolError::Unreadable(7))?;
+    assert_eq!(rt; line.as_str(), "unreadable line 7");
+    let memory = format!(in rt.alloc(); "{}", ProtocolError::NoMemory)?;
+    assert_eq!(rt; memory.as_str(), "out of memory");
     Ok(())
 }
 

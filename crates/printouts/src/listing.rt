@@ -20,6 +20,7 @@ fn list_plan(plan: Plan, limit: usize, out: &mut Vec<u8>) -> Result<(), AllocErr
 {
     let cap = plan.cap;
     let most = plan.most;
+    // replayed plans part in the same way, and the reason there holds here
     match plan.subject {
         Subject::Regions(map) => list_all(Cap::new(Regions::new(&map), cap), most, limit, out),
         Subject::Polygon(n) => list_all(Cap::new(drawn(n), cap), most, limit, out),

@@ -11,8 +11,7 @@ use cap::Cap;
 use engine::call::Call;
 use engine::run::run;
 use oracle::coded::Coded;
-use polygon::Polygon;
-use protocols::{Protocol, read_protocol};
+use protocols::{ProtocolError, read_protocol};
 use regions::Regions;
 use reports::fault_line;
 use sheets::{Plan, Subject, read_sheet};
@@ -21,7 +20,8 @@ use std::alloc::{AllocError, Global};
 fn unreadable_line(heap: Global, line: u64) -> Result<Vec<u8>, AllocError>
     ensures { IfOk result (λ v. v.items ≡ unreadable_text line) }
 {
-    let text = format!(in heap; "unreadable line {line}\n")?;
+    let error = ProtocolError::Unreadable(line);
+    let text = format!(in heap; "{error}\n")?;
     Ok(text.into_bytes())
 }
 
@@ -46,9 +46,10 @@ pub fn replay_protocol<O: Coded + Drop>(
     requires { O.Walking.sound oracle }
     ensures { IfOk result (λ v. v.items ≡ protocol_text (O.Walking.setup oracle) acts.now) }
 {
-    match read_protocol(heap, acts)? {
-        Protocol::Calls(calls) => replay_calls(heap, oracle, calls),
-        Protocol::Unreadable(line) => unreadable_line(heap, line),
+    match read_protocol(heap, acts) {
+        Ok(calls) => replay_calls(heap, oracle, calls),
+        Err(ProtocolError::Unreadable(line)) => unreadable_line(heap, line),
+        Err(ProtocolError::NoMemory) => Err(AllocError),
     }
 }
 
@@ -57,6 +58,8 @@ fn replay_plan(heap: Global, plan: Plan, acts: &[u8]) -> Result<Vec<u8>, AllocEr
     ensures { IfOk result (λ v. v.items ≡ protocol_text (plan_setup (plan_of plan)) acts.now) }
 {
     let cap = plan.cap;
+    // listed plans part in the same way: one place for both needs a trait with a generic method, and a
+    // struct with an impl for each use, which is more than these two lines
     match plan.subject {
         Subject::Regions(map) => replay_protocol(heap, Cap::new(Regions::new(&map), cap), acts),
         Subject::Polygon(n) => replay_protocol(heap, Cap::new(drawn(n), cap), acts),

@@ -3,7 +3,7 @@ use Rattle.std.proofs.Common.{◌≡◌, ℕ, ◌+◌, ◌-◌, ◌*◌, ◌/◌
 use Rattle.std.specs.List.{AllByRecursion}
 use Rattle.std.specs.Str.{bytes_eq}
 use Rattle.std.proofs.lemmas.Slice.Eq.{bytes_eq-Decides}
-use Rattle.std.proofs.lemmas.List.{at_drop_more, at_drop_all, take_rest, append_assoc, append-nil}
+use Rattle.std.proofs.lemmas.List.{take_rest, append_assoc, append-nil}
 use Rattle.std.proofs.lemmas.Bool.{and_parts, and_from, eqb-true, eq-eqb, leb-true, le-leb, and_right}
 use Rattle.std.proofs.lemmas.Bool.Decides.{nat_tests}
 use Rattle.lines.specs.Texts.{hex_digit, hexed}
@@ -40,7 +40,7 @@ whole b = omega arith
 -- digits in pairs, written of what they stand for
 pairs_back : (n : ℕ) (ds : List ℕ) → length ds ≡ 2 * n → all_hex ds ≡ true
     → (hexed (bytes_of ds) ≡ ds) × AllByRecursion (λ b. b < 256) (bytes_of ds)
-unfolding hexed bytes_of all_hex
+unfolding hexed bytes_of
 pairs_back n [] e h = (refl, tt)
 pairs_back n (a ∷ []) e h = absurd (omega arith)
 pairs_back n (a ∷ (b ∷ cs)) e h =
@@ -71,7 +71,7 @@ bytes_back (b ∷ bs) h =
     ∙ ap (λ x. b ∷ x) (bytes_back bs h.1)
 
 digits_hex : (bs : List ℕ) → AllByRecursion (λ b. b < 256) bs → all_hex (hexed bs) ≡ true
-unfolding hexed all_hex
+unfolding hexed
 digits_hex [] h = refl
 digits_hex (b ∷ bs) h =
     let small = h.0 in
@@ -151,20 +151,6 @@ are_bytes (b ∷ bs) h =
 
 -- ---- the digits that are left of some
 
-pub hex_yes : (bs : List ℕ) (i : ℕ) → i < length bs → is_hex (get_or bs i 0) ≡ true → all_hex (drop i bs) ≡ all_hex (drop (i + 1) bs)
-unfolding all_hex
-hex_yes bs i h e =
-    at_drop_more all_hex bs i 0 h ∙ ap (λ t. t && all_hex (drop (i + 1) bs)) e
-
-pub hex_no : (bs : List ℕ) (i : ℕ) → i < length bs → is_hex (get_or bs i 0) ≡ false → all_hex (drop i bs) ≡ false
-unfolding all_hex
-hex_no bs i h e =
-    at_drop_more all_hex bs i 0 h ∙ ap (λ t. t && all_hex (drop (i + 1) bs)) e
-
-pub hex_end : (bs : List ℕ) (i : ℕ) → length bs ≤ i → all_hex (drop i bs) ≡ true
-unfolding all_hex
-hex_end bs i h = at_drop_all all_hex bs i h
-
 -- two digits in front, or fewer than two in all
 pub pair_on : (ds : List ℕ) → 2 ≤ length ds
     → bytes_of ds ≡ (hex_value (get_or ds 0 0) * 16 + hex_value (get_or ds 1 0)) ∷ bytes_of (drop 2 ds)
@@ -180,17 +166,17 @@ pair_end (a ∷ []) h = refl
 pair_end (a ∷ (b ∷ cs)) h = absurd (omega arith)
 
 -- which way bytes are read
-pub at_hyphen : (ds : List ℕ) → bytes_eq ds (codes "-") ≡ true → Some (bytes_of []) ≡ bytes_at ds
-unfolding bytes_at bytes_of by_hyphen
-at_hyphen ds e = sym (ap (by_hyphen ds) e)
+pub at_hyphen : (ds : List ℕ) → ds ≡ codes "-" → Some (bytes_of []) ≡ bytes_at ds
+unfolding bytes_at bytes_of
+at_hyphen ds e = ap bytes_at (sym e)
 
 pub at_others : (ds : List ℕ) → bytes_eq ds (codes "-") ≡ false → in_pairs ds ≡ false → None ≡ bytes_at ds
 unfolding bytes_at by_hyphen by_pairs
-at_others ds e f = sym (ap (by_hyphen ds) e ∙ ap (by_pairs ds) f)
+at_others ds ne f = sym (ap (by_hyphen ds) ne ∙ ap (by_pairs ds) f)
 
 pub at_pairs : (ds : List ℕ) → bytes_eq ds (codes "-") ≡ false → in_pairs ds ≡ true → Some (bytes_of ds) ≡ bytes_at ds
 unfolding bytes_at by_hyphen by_pairs
-at_pairs ds e f = sym (ap (by_hyphen ds) e ∙ ap (by_pairs ds) f)
+at_pairs ds ne f = sym (ap (by_hyphen ds) ne ∙ ap (by_pairs ds) f)
 
 -- one byte more of those that are left, and none
 pub decode_on : (so_far pushed rest all : List ℕ) (x : ℕ) → pushed ≡ so_far ++ (x ∷ []) → 2 ≤ length rest

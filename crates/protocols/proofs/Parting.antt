@@ -129,8 +129,6 @@ parted_missing d bs e = go (ltb (run d bs) (length bs)) refl
 
 -- the same, of the parts that the code cuts out
 pub parted_slices : (d n : ℕ) (bs : List ℕ) → Some n ≡ place_of d bs
-    → Some (take (n - 0) bs, take (length bs - (n + 1)) (drop (n + 1) bs)) ≡ parted d bs
+    → Some (take n bs, take (length bs - (n + 1)) (drop (n + 1) bs)) ≡ parted d bs
 parted_slices d n bs e =
-    let same : n - 0 ≡ n = omega arith in
-    ap (λ m. Some (take m bs, take (length bs - (n + 1)) (drop (n + 1) bs))) same
-    ∙ ap (λ ys. Some (take n bs, ys)) (take_rest bs (n + 1)) ∙ (parted_found d n bs e).1
+    ap (λ ys. Some (take n bs, ys)) (take_rest bs (n + 1)) ∙ (parted_found d n bs e).1

@@ -5,6 +5,7 @@ use Rattle.std.specs.List.{AllByRecursion}
 use Rattle.std.specs.Str.{bytes_eq}
 use Rattle.std.proofs.ByRecursion.{All-append, All-weaker, Decides-by_and}
 use Rattle.std.proofs.lemmas.Slice.Eq.{bytes_eq-Decides}
+use Rattle.std.proofs.lemmas.Bool.{cond-false}
 use Rattle.std.proofs.lemmas.Bool.Decides.{Decides-not, Decides-eqb}
 use Rattle.lines.specs.Texts.{hexed}
 use Rattle.protocols.specs.Laws.{Spells}
@@ -128,6 +129,11 @@ request_alone l e = ap (by_word l) e
 pub request_asking : (l w r : List ℕ) → parted 32 l ≡ Some (w, r) → request_at l ≡ asking w r
 unfolding request_at by_word
 request_asking l w r e = ap (by_word l) e
+
+pub others_asked : (w r : List ℕ) → bytes_eq w (codes "read") ≡ false → bytes_eq w (codes "save") ≡ false
+    → bytes_eq w (codes "resume") ≡ false → None ≡ asking w r
+others_asked w r a b c =
+    sym (cond-false _ (reading r) _ a ∙ cond-false _ (saving r) _ b ∙ cond-false _ (resuming r) None c)
 
 request_is : (l : List ℕ) (q : Request) → request_at l ≡ Some q → Spelt l q
 request_is l q e = go (parted 32 l) refl

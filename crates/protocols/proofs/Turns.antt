@@ -1,11 +1,11 @@
 -- One turn of the reader's loop: the calls so far and what is left give what the whole protocol gives.
-use Rattle.std.proofs.Common.{◌≡◌, ℕ, ◌+◌, ◌≤◌, List, [], ◌∷◌, ◌++◌, map, length, Some, None, Ok, Err, Result, sym, refl, ap, ◌∙◌, arith, length-append}
+use Rattle.std.proofs.Common.{◌≡◌, ℕ, ◌+◌, ◌<◌, ◌≤◌, List, [], ◌∷◌, ◌++◌, map, length, Some, None, Ok, Err, Result, sym, refl, ap, ◌∙◌, arith, length-append}
 use Rattle.std.proofs.lemmas.List.{append_assoc, append-nil, map_push}
 use Rattle.engine.specs.Runs.{Order, order_of}
 use Rattle.engine.specs.declared.call.Call.{Call}
 use Rattle.sheets.specs.Cut.{Cut, cut}
 use Rattle.sheets.proofs.Cuts.{cut_line, cut_rest}
-use Rattle.protocols.specs.Reading.{parted, request_at, in_front, requests_from, requests_in, at_end, ordered}
+use Rattle.protocols.specs.Reading.{parted, request_at, in_front, requests_from, requests_in, ordered}
 use Rattle.protocols.specs.Requests.{Request, order_for}
 use Rattle.protocols.proofs.Decimals.{clash}
 use Rattle.protocols.proofs.Parting.{parted_is, parted_front, parted_none}
@@ -50,13 +50,21 @@ at_rest : (os : List Order) (n : ℕ) (rest : List ℕ) → parted 10 rest ≡ N
 at_rest os n rest e =
     ap (λ (c : Cut). following os (ordered (requests_from n c.lines c.rest))) (cut_rest rest (parted_none 10 rest e))
 
-pub turn_end : (os : List Order) (n : ℕ) (rest : List ℕ) → parted 10 rest ≡ None → at_end os n rest ≡ read_on os n rest
+pub turn_end : (os : List Order) (n : ℕ) (rest : List ℕ) → parted 10 rest ≡ None → length rest ≡ 0 → Ok os ≡ read_on os n rest
 unfolding requests_from
-turn_end os n rest e = ended rest ∙ sym (at_rest os n rest e)
+turn_end os n rest e none = ended rest none ∙ sym (at_rest os n rest e)
   where
-    ended : (r : List ℕ) → at_end os n r ≡ following os (ordered (requests_from n [] r))
-    ended [] = ap Ok (sym (append-nil os))
-    ended (b ∷ r) = refl
+    ended : (r : List ℕ) → length r ≡ 0 → Ok os ≡ following os (ordered (requests_from n [] r))
+    ended [] h = ap Ok (sym (append-nil os))
+    ended (b ∷ r) h = absurd (omega arith)
+
+pub turn_cut : (os : List Order) (n : ℕ) (rest : List ℕ) → parted 10 rest ≡ None → 0 < length rest → Err n ≡ read_on os n rest
+unfolding requests_from
+turn_cut os n rest e some = ended rest some ∙ sym (at_rest os n rest e)
+  where
+    ended : (r : List ℕ) → 0 < length r → Err n ≡ following os (ordered (requests_from n [] r))
+    ended [] h = absurd (omega arith)
+    ended (b ∷ r) h = refl
 
 -- a line that is read is not empty
 some_line : (l : List ℕ) (q : Request) → request_at l ≡ Some q → 1 ≤ length l

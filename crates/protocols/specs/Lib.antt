@@ -2,4 +2,5 @@ pub mod Values
 pub mod Requests
 pub mod Reading
 pub mod Laws
+pub mod Words
 pub mod Views

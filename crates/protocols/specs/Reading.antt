@@ -34,6 +34,14 @@ alone l =
 abbrev pub reading : List ℕ → Option Request
 reading r = option_map read (number_at most_size r)
 
+-- the job number and what stands behind its space
+abbrev pub job_of : Option (List ℕ × List ℕ) → Option (ℕ × List ℕ)
+job_of None = None
+job_of (Some p) = option_map (λ job. (job, p.1)) (number_at most_job p.0)
+
+abbrev pub behind_job : List ℕ → Option (ℕ × List ℕ)
+behind_job r = job_of (parted 32 r)
+
 abbrev pub saving : List ℕ → Option Request
 saving r =
     elim (parted 32 r) [
@@ -76,11 +84,6 @@ requests_from n (l ∷ ls) r =
 -- the requests of a protocol, or the number of its first line that is unreadable
 unfoldable pub requests_in : List ℕ → Result (List Request) ℕ
 requests_in bytes = requests_from 1 (cut bytes).lines (cut bytes).rest
-
--- the orders so far, where nothing but this follows the last finished line before line n
-abbrev pub at_end : List Order → ℕ → List ℕ → Result (List Order) ℕ
-at_end os n [] = Ok os
-at_end os n (b ∷ r) = Err n
 
 -- the orders in place of the requests
 abbrev pub ordered : Result (List Request) ℕ → Result (List Order) ℕ

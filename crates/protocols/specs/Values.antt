@@ -1,19 +1,16 @@
 -- The numbers and the bytes that a line gives, read from what is written of them.
-use Rattle.std.specs.Prelude.{ℕ, ◌+◌, ◌-◌, ◌*◌, ◌%◌, Bool, true, false, cond, not, ◌&&◌, ◌||◌, List, [], ◌∷◌, length, Some, None, codes, Option, ◌==◌, nat_le, slice_index}
+use Rattle.std.specs.Prelude.{ℕ, ◌+◌, ◌-◌, ◌*◌, ◌%◌, Bool, true, false, cond, ◌&&◌, ◌||◌, List, [], ◌∷◌, length, Some, None, codes, Option, ◌==◌, nat_le}
+use Rattle.std.specs.List.{list_all}
 use Rattle.std.specs.Str.{bytes_eq}
-use Rattle.items.specs.Numerals.{read_on}
-
--- one to ten bytes, of which the first is 0 only if it is the only one
-abbrev pub trim : List ℕ → Bool
-trim ds = nat_le 1 (length ds) && nat_le (length ds) 10 && (not (slice_index ds 0 == 48) || length ds == 1)
+use Rattle.items.specs.Numerals.{number_of}
 
 abbrev pub at_most : ℕ → Option ℕ → Option ℕ
 at_most most None = None
 at_most most (Some n) = elim (nat_le n most) [ true ↦ Some n | false ↦ None ]
 
--- a decimal number that is not above `most`
+-- a decimal number of at most ten digits that is not above `most`
 unfoldable pub number_at : ℕ → List ℕ → Option ℕ
-number_at most ds = elim (trim ds) [ true ↦ at_most most (read_on 0 ds) | false ↦ None ]
+number_at most ds = at_most most (number_of 10 ds)
 
 -- 0 to 9, and a to f
 abbrev pub is_hex : ℕ → Bool
@@ -23,9 +20,8 @@ is_hex c = (nat_le 48 c && nat_le c 57) || (nat_le 97 c && nat_le c 102)
 abbrev pub hex_value : ℕ → ℕ
 hex_value c = cond (nat_le 48 c && nat_le c 57) (c - 48) (cond (nat_le 97 c && nat_le c 102) (c - 87) 0)
 
-unfoldable pub all_hex : List ℕ → Bool
-all_hex [] = true
-all_hex (c ∷ cs) = is_hex c && all_hex cs
+abbrev pub all_hex : List ℕ → Bool
+all_hex ds = list_all is_hex ds
 
 -- a byte for each two digits
 unfoldable pub bytes_of : List ℕ → List ℕ

@@ -1,5 +1,5 @@
 -- What the values of the code stand for.
-use Rattle.std.specs.Prelude.{◌≡◌, ℕ, List, map, Ok, Err, vec_items, Result}
+use Rattle.std.specs.Prelude.{◌≡◌, ℕ, List, map, Some, None, Ok, Err, vec_items, Option, Result, Vec}
 use Rattle.std.specs.Borrow.{Bor}
 use Rattle.engine.specs.Runs.{Order, order_of}
 use Rattle.engine.specs.Tallies.{cleared}
@@ -9,8 +9,8 @@ use Rattle.protocols.specs.Requests as plain
 use Rattle.protocols.specs.Values.{bytes_of}
 use Rattle.protocols.specs.declared.request.Request.{Request}
 use Rattle.protocols.specs.declared.request.Request.TheVariants.{Next, Restart, Tally, Read, Save, Resume}
-use Rattle.protocols.specs.declared.protocol.Protocol.{Protocol}
-use Rattle.protocols.specs.declared.protocol.Protocol.TheVariants.{Calls, Unreadable}
+use Rattle.protocols.specs.declared.error.ProtocolError.{ProtocolError}
+use Rattle.protocols.specs.declared.error.ProtocolError.TheVariants.{Unreadable, NoMemory}
 
 abbrev pub request_of : Request → plain.Request
 request_of Next = plain.next
@@ -28,10 +28,16 @@ bytes_in digits = bytes_of digits.now
 abbrev pub both : Bor (List ℕ) × Bor (List ℕ) → List ℕ × List ℕ
 both p = (p.0.now, p.1.now)
 
+-- a number and a slice
+abbrev pub with_slice : ℕ × Bor (List ℕ) → ℕ × List ℕ
+with_slice p = (p.0, p.1.now)
+
 -- a call of this order, of which nothing is carried out yet
 abbrev pub Fresh : Order → Call → Type 0
-Fresh o call = (order_of call ≡ o) × (call.answer ≡ Done) × (call.tally ≡ cleared)
+Fresh o call = (order_of call ≡ o) × (call.answer ≡ Ok Done) × (call.tally ≡ cleared)
 
-abbrev pub orders_of : Protocol → Result (List Order) ℕ
-orders_of (Calls calls) = Ok (map order_of (vec_items calls))
-orders_of (Unreadable line) = Err line
+-- the orders that were read, or the number of the unreadable line; none where memory ran out
+abbrev pub orders_of : {Z : Type 0} → Result (Vec Call Z) ProtocolError → Option (Result (List Order) ℕ)
+orders_of (Ok calls) = Some (Ok (map order_of (vec_items calls)))
+orders_of (Err (Unreadable line)) = Some (Err line)
+orders_of (Err NoMemory) = None

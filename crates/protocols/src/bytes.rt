@@ -4,7 +4,6 @@ ghost use Rattle.std.specs.Option.{option_map};
 ghost use Rattle.protocols.specs.Values.{is_hex, hex_value, all_hex, in_pairs, bytes_of, bytes_at};
 ghost use Rattle.protocols.specs.Views.{bytes_in};
 
-use super::words::is_word;
 use std::alloc::{AllocError, Global};
 
 // 0 to 9, and a to f.
@@ -17,12 +16,7 @@ fn is_digit(byte: u8) -> bool
 fn are_digits(bytes: &[u8]) -> bool
     ensures { result ≡ all_hex bytes.now }
 {
-    for b in bytes {
-        if !is_digit(*b) {
-            return false;
-        }
-    }
-    true
+    bytes.iter().all(|b| is_digit(*b))
 }
 
 // Whether there are digits, an even number of them.
@@ -36,16 +30,15 @@ fn are_pairs(bytes: &[u8]) -> bool
 pub(crate) fn digits_in(bytes: &[u8]) -> Option<&[u8]>
     ensures { option_map bytes_in result ≡ bytes_at bytes.now }
 {
-    if is_word(bytes, b"-") {
-        return Some(&bytes[0..0]);
+    match bytes {
+        b"-" => Some(&[]),
+        _ if are_pairs(bytes) => Some(bytes),
+        _ => None,
     }
-    if !are_pairs(bytes) {
-        return None;
-    }
-    Some(bytes)
 }
 
-// What a digit stands for; any other byte for 0.
+// What a digit stands for; any other byte for 0. The library's `to_digit` takes capitals for digits. It is 0 and
+// no Option: a request that no line gave may hold any byte, and its call fails only for want of memory.
 fn digit_value(byte: u8) -> u8
     ensures value { result ≡ hex_value byte }
     ensures small { result < 16 }

@@ -22,21 +22,13 @@ fn unwritten(heap: Global, size: usize) -> Result<Vec<u8>, AllocError>
 pub fn request_call(heap: Global, request: Request<'_>) -> Result<Call, AllocError>
     ensures { IfOk result (λ call. Fresh (order_for (request_of request.entry)) call) }
 {
-    match request {
-        Request::Next => Ok(Call::new(Act::Next, Vec::new(heap))),
-        Request::Restart => Ok(Call::new(Act::Restart, Vec::new(heap))),
-        Request::Tally => Ok(Call::new(Act::Tally, Vec::new(heap))),
-        Request::Read(size) => {
-            let buffer = unwritten(heap, size)?;
-            Ok(Call::new(Act::Read, buffer))
-        }
-        Request::Save(job, size) => {
-            let buffer = unwritten(heap, size)?;
-            Ok(Call::new(Act::Save(job), buffer))
-        }
-        Request::Resume(job, digits) => {
-            let buffer = decode(heap, digits)?;
-            Ok(Call::new(Act::Resume(job), buffer))
-        }
-    }
+    let (act, buffer) = match request {
+        Request::Next => (Act::Next, Vec::new(heap)),
+        Request::Restart => (Act::Restart, Vec::new(heap)),
+        Request::Tally => (Act::Tally, Vec::new(heap)),
+        Request::Read(size) => (Act::Read, unwritten(heap, size)?),
+        Request::Save(job, size) => (Act::Save(job), unwritten(heap, size)?),
+        Request::Resume(job, digits) => (Act::Resume(job), decode(heap, digits)?),
+    };
+    Ok(Call::new(act, buffer))
 }

@@ -3,15 +3,15 @@
 
 mod bytes;
 mod calls;
+mod error;
 mod line;
 mod numbers;
-mod protocol;
 mod read;
 mod request;
 mod words;
 
 pub use calls::request_call;
+pub use error::ProtocolError;
 pub use line::read_request;
-pub use protocol::Protocol;
 pub use read::read_protocol;
 pub use request::Request;

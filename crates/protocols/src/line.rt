@@ -2,70 +2,65 @@
 ghost use Rattle.std.specs.Prelude.{◌≡◌};
 ghost use Rattle.std.specs.Option.{option_map};
 ghost use Rattle.protocols.specs.Laws.{Spells};
-ghost use Rattle.protocols.specs.Reading.{alone, reading, saving, resuming, asking, request_at};
-ghost use Rattle.protocols.specs.Views.{request_of};
+ghost use Rattle.protocols.specs.Reading.{alone, behind_job, reading, saving, resuming, asking, request_at};
+ghost use Rattle.protocols.specs.Views.{request_of, with_slice};
 
 use super::bytes::digits_in;
 use super::numbers::{job_in, size_in};
 use super::request::Request;
-use super::words::{is_word, part};
+use super::words::part;
 
 // A line of one word.
 fn one_word(line: &[u8]) -> Option<Request<'_>>
     ensures { option_map request_of result ≡ alone line.now }
 {
-    if is_word(line, b"next") {
-        return Some(Request::Next);
+    match line {
+        b"next" => Some(Request::Next),
+        b"restart" => Some(Request::Restart),
+        b"tally" => Some(Request::Tally),
+        _ => None,
     }
-    if is_word(line, b"restart") {
-        return Some(Request::Restart);
-    }
-    if is_word(line, b"tally") {
-        return Some(Request::Tally);
-    }
-    None
 }
 
 // What stands behind the word of a read.
 fn read_from(rest: &[u8]) -> Option<Request<'_>>
     ensures { option_map request_of result ≡ reading rest.now }
 {
-    let size = size_in(rest)?;
-    Some(Request::Read(size))
+    Some(Request::Read(size_in(rest)?))
+}
+
+// A job number and what stands behind its space.
+fn job_first(rest: &[u8]) -> Option<(u32, &[u8])>
+    ensures { option_map with_slice result ≡ behind_job rest.now }
+{
+    let (job, behind) = part(b' ', rest)?;
+    Some((job_in(job)?, behind))
 }
 
 fn save_from(rest: &[u8]) -> Option<Request<'_>>
     ensures { option_map request_of result ≡ saving rest.now }
 {
-    let (job, size) = part(b' ', rest)?;
-    let job = job_in(job)?;
-    let size = size_in(size)?;
-    Some(Request::Save(job, size))
+    let (job, size) = job_first(rest)?;
+    Some(Request::Save(job, size_in(size)?))
 }
 
 fn resume_from(rest: &[u8]) -> Option<Request<'_>>
     ensures { option_map request_of result ≡ resuming rest.now }
 {
-    let (job, digits) = part(b' ', rest)?;
-    let job = job_in(job)?;
-    let digits = digits_in(digits)?;
-    Some(Request::Resume(job, digits))
+    let (job, digits) = job_first(rest)?;
+    Some(Request::Resume(job, digits_in(digits)?))
 }
 
 // A line of a word and what stands behind its space.
 fn more_words<'a>(word: &[u8], rest: &'a [u8]) -> Option<Request<'a>>
     ensures { option_map request_of result ≡ asking word.now rest.now }
 {
-    if is_word(word, b"read") {
-        return read_from(rest);
+    match word {
+        b"read" => read_from(rest),
+        b"save" => save_from(rest),
+        b"resume" => resume_from(rest),
+        _ => None,
     }
-    if is_word(word, b"save") {
-        return save_from(rest);
-    }
-    if is_word(word, b"resume") {
-        return resume_from(rest);
-    }
-    None
 }
 
 // What the line asks for; none where it is no request.

@@ -1,7 +1,6 @@
-//! Words and what stands between them.
+//! Parts of a line.
 ghost use Rattle.std.specs.Prelude.{◌≡◌};
 ghost use Rattle.std.specs.Option.{option_map};
-ghost use Rattle.std.specs.Str.{bytes_eq};
 ghost use Rattle.protocols.specs.Reading.{place_of, parted};
 ghost use Rattle.protocols.specs.Views.{both};
 
@@ -9,12 +8,7 @@ ghost use Rattle.protocols.specs.Views.{both};
 fn find(byte: u8, bytes: &[u8]) -> Option<usize>
     ensures { result ≡ place_of byte bytes.now }
 {
-    for (n, b) in bytes.iter().enumerate() {
-        if *b == byte {
-            return Some(n);
-        }
-    }
-    None
+    bytes.iter().position(|b| *b == byte)
 }
 
 // What stands before the first such byte, and what stands behind it.
@@ -22,11 +16,5 @@ pub(crate) fn part(byte: u8, bytes: &[u8]) -> Option<(&[u8], &[u8])>
     ensures { option_map both result ≡ parted byte bytes.now }
 {
     let n = find(byte, bytes)?;
-    Some((&bytes[0..n], &bytes[n + 1..]))
-}
-
-pub(crate) fn is_word(bytes: &[u8], word: &[u8]) -> bool
-    ensures { result ≡ bytes_eq bytes.now word.now }
-{
-    bytes == word
+    Some((&bytes[..n], &bytes[n + 1..]))
 }

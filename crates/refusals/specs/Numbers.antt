@@ -19,6 +19,8 @@ use Rattle.refusals.specs.declared.Refusal.TheVariants.{
   SheetShort,
   SheetLong,
 }
+use Rattle.refusals.specs.declared.layer.Layer.{Layer}
+use Rattle.refusals.specs.declared.layer.Layer.TheVariants.{Items, Lines, SetUp}
 
 abbrev pub number_of : Refusal → ℕ
 number_of BufferShort = 1
@@ -53,3 +55,8 @@ layer_of OutOfRange = Some 3
 layer_of BadPair = Some 3
 layer_of SheetShort = Some 2
 layer_of SheetLong = Some 1
+
+abbrev pub layer_number : Layer → ℕ
+layer_number Items = 1
+layer_number Lines = 2
+layer_number SetUp = 3

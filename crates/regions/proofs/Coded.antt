@@ -8,7 +8,6 @@ use Rattle.refusals.specs.declared.Refusal.TheVariants.{SlotRange, NotACode}
 use Rattle.digits.proofs.Digits.{ones_count}
 use Rattle.oracle.specs.Setup.{Code}
 use Rattle.oracle.specs.Calls.{into, stepped, taken}
-use Rattle.oracle.specs.declared.step.Step.TheVariants.{Vacant, Back}
 use Rattle.masks.specs.Codes.{code, number, is_code, read_code}
 use Rattle.masks.specs.Family.{as_slot}
 use Rattle.masks.proofs.Codes.{number_code, read_says}
@@ -44,12 +43,12 @@ stepped_by n t v j o l e =
     (ap (λ x. into v (as_slot x)) (sym e))
 
 module _ (n : ℕ) (t : List ℕ) (s : ℕ) (h : s < 2 ^ 64) where
-  pub stepped_vacant : (j : ℕ) → j < n → false ≡ is_set n t (turned s j) → (Ok Vacant, code s) ≡ stepped (regions_setup n t) (code s) j
+  pub stepped_vacant : (j : ℕ) → j < n → false ≡ is_set n t (turned s j) → (Ok None, code s) ≡ stepped (regions_setup n t) (code s) j
   stepped_vacant j l e =
       stepped_by n t (code s) j None l (ap (λ x. set_slot n t x j) (number_code s h) ∙ slot_vacant n t s j (sym e))
 
   pub stepped_filled : (j : ℕ) → j < n → true ≡ is_set n t (turned s j)
-      → (Ok (Back j), code (turned s j)) ≡ stepped (regions_setup n t) (code s) j
+      → (Ok (Some j), code (turned s j)) ≡ stepped (regions_setup n t) (code s) j
   stepped_filled j l e =
       stepped_by n t (code s) j (Some (turned s j, j)) l (ap (λ x. set_slot n t x j) (number_code s h) ∙ slot_filled n t s j (sym e))
 

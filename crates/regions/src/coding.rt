@@ -1,21 +1,9 @@
 //! The codes of the connected sets of a map.
-ghost use Rattle.std.specs.Prelude.{◌≡◌};
-ghost use Rattle.regions.specs.Rows.{set_of_row};
-
 use super::judging::is_set;
 use super::subject::Regions;
-use maps::Map;
 use masks::{read_code, write_code};
 use oracle::coded::Coded;
 use refusals::Refusal;
-
-// The set that a row of bytes is the code of.
-fn set_of(map: &Map, row: &[u8]) -> Option<u64>
-    ensures { result ≡ set_of_row map.now.n map.now.rows row.now }
-{
-    let set = read_code(row)?;
-    if is_set(map, set) { Some(set) } else { None }
-}
 
 impl Coded for Regions {
     fn size(&self) -> usize {
@@ -27,10 +15,9 @@ impl Coded for Regions {
     }
 
     fn take(&mut self, row: &[u8]) -> Result<(), Refusal> {
-        let Some(set) = set_of(&self.map, row) else {
-            return Err(Refusal::NotACode);
-        };
-        self.set = set;
+        self.set = read_code(row)
+            .filter(|set| is_set(&self.map, *set))
+            .ok_or(Refusal::NotACode)?;
         Ok(())
     }
 }

@@ -1,9 +1,9 @@
 //! Walking over the connected sets of a map.
 ghost use Rattle.regions.specs.Views.{setup_of, current_of, lawful_of, stands_of};
 
-use super::judging::{first_to_leave, leads_on, turned};
+use super::judging::first_to_leave;
 use super::subject::Regions;
-use oracle::step::Step;
+use super::turning::turned;
 use oracle::walking::Walking;
 use refusals::Refusal;
 
@@ -35,16 +35,16 @@ impl Walking for Regions {
         first_to_leave(&self.map, self.set)
     }
 
-    fn step(&mut self, slot: usize) -> Result<Step, Refusal> {
+    fn step(&mut self, slot: usize) -> Result<Option<usize>, Refusal> {
         if slot >= self.width() {
             return Err(Refusal::SlotRange);
         }
-        if !leads_on(self, slot as u32) {
-            return Ok(Step::Vacant);
+        if !self.leads_on(slot as u32) {
+            return Ok(None);
         }
         let set = turned(self.set, slot as u32);
         self.left = self.set;
         self.set = set;
-        Ok(Step::Back(slot))
+        Ok(Some(slot))
     }
 }

@@ -5,7 +5,6 @@
 mod tests {
     use maps::map_of;
     use oracle::coded::Coded;
-    use oracle::step::Step;
     use oracle::walking::Walking;
     use refusals::Refusal;
     use regions::Regions;
@@ -30,13 +29,11 @@ mod tests {
         Ok(code[0])
     }
 
-    // The set that a slot leads to, or the set itself where the slot is vacant.
+    // The set that a slot leads to; at a vacant slot the set itself stays.
     fn across(set: u8, slot: usize) -> Result<u8, Refusal> {
         let mut regions = standing_at(set)?;
-        match regions.step(slot)? {
-            Step::Back(_) => current(&regions),
-            Step::Vacant => Ok(set),
-        }
+        regions.step(slot)?;
+        current(&regions)
     }
 
     #[test]

@@ -4,6 +4,7 @@
 #[cfg(test)]
 mod tests {
     use reports::verdict;
+    use sheets::sheet_bytes;
     use std::process::Abort;
     use std::test::Fail;
 
@@ -159,6 +160,19 @@ mod tests {
         assert!(rt; over.len() == 65_537);
         let said = verdict(rt.alloc(), over.as_slice())?;
         assert_eq!(rt; said.as_str(), "fault 15 line 0 layer 1\n");
+        Ok(())
+    }
+
+    // All of a short input is taken, and of a long one a byte more than a sheet may have.
+    #[test]
+    fn input(rt: HostRuntime) -> Result<(), Fail> {
+        let short: &[u8] = b"R 3\n. 100\n";
+        let taken = sheet_bytes(rt.alloc(), short)?;
+        assert_eq!(rt; taken.as_slice(), short);
+        let long = long_sheet(&rt, b". 100000\n")?;
+        assert!(rt; long.len() == 65_539);
+        let taken = sheet_bytes(rt.alloc(), long.as_slice())?;
+        assert!(rt; taken.len() == 65_537);
         Ok(())
     }
 }

@@ -8,6 +8,7 @@ use Rattle.std.proofs.lemmas.Bool.{and_parts, and_from, le-leb, lt-leb, ne_eqb, 
 use Rattle.std.proofs.lemmas.Bool.Decides.{nat_tests}
 use Rattle.refusals.specs.declared.Refusal.{Refusal}
 use Rattle.refusals.specs.declared.Refusal.TheVariants.{OutOfRange, BadPair, SheetLong}
+use Rattle.items.specs.Lines.{kind_of_line}
 use Rattle.items.specs.Texts.{text_of, Short}
 use Rattle.items.specs.declared.line.Kind.{Kind}
 use Rattle.items.specs.declared.line.Kind.TheVariants as kind
@@ -19,7 +20,7 @@ use Rattle.maps.specs.Touch as touch
 use Rattle.maps.specs.Touch.{bare, begun, with_pair, pair_fault}
 use Rattle.maps.proofs.Tables.{begun_good}
 use Rattle.sheets.specs.Cut.{Cut, cut}
-use Rattle.sheets.specs.Order.{kind_of_line, follows, stopped}
+use Rattle.sheets.specs.Order.{follows, stopped}
 use Rattle.sheets.specs.Reading.{Wanted, at_line, most_bytes, read_from, read_all}
 use Rattle.sheets.specs.Settings.{Settings, Topic, regions, polygon, unset, height_of, regions_with, polygon_with, pair_among, counted, with_topic, with_cap, with_most, set_by, most_number}
 use Rattle.sheets.specs.Written.{Content, Subject, of_regions, of_polygon, Good, GoodPair, GoodSubject, sheet_of, pair_line, subject_lines, cap_lines, lines_of, written, table_after, topic_for, wanted_for}
@@ -44,7 +45,7 @@ no_break_append [] ys hx hy = hy
 no_break_append (x ∷ xs) ys hx hy = (hx.0, no_break_append xs ys hx.1 hy)
 
 no_break_decimal : (n : ℕ) → n < 10 ^ 7 → AllByRecursion (λ b. b ≢ 10) (decimal n)
-no_break_decimal n h = no_break_digits (decimal n) (digits_in n h)
+no_break_decimal n h = no_break_digits (decimal n) (digits_in n (omega arith))
 
 no_break_text : (x : Line) → Short x → AllByRecursion (λ b. b ≢ 10) (text_of x)
 no_break_text (Regions n) h = (omega arith, (omega arith, no_break_decimal n h))

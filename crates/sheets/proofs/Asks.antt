@@ -5,7 +5,7 @@ use Rattle.std.proofs.lemmas.List.{append-nil}
 use Rattle.std.proofs.lemmas.Bool.{and_parts, leb-true, eqb-true, cond-true, cond-false, cases_lt}
 use Rattle.refusals.specs.declared.Refusal.{Refusal}
 use Rattle.refusals.specs.declared.Refusal.TheVariants.{LineOrder, OutOfRange, SheetShort}
-use Rattle.items.specs.Lines.{line_of}
+use Rattle.items.specs.Lines.{line_of, kind_of_line}
 use Rattle.items.specs.Texts.{text_of}
 use Rattle.items.specs.declared.line.Kind.{Kind}
 use Rattle.items.specs.declared.line.Kind.TheVariants as kind
@@ -18,7 +18,7 @@ use Rattle.maps.proofs.Results.{same_ok, clash}
 use Rattle.maps.proofs.Tables.{begun_is, pair_good, after_good, meant}
 use Rattle.sheets.specs.Cut.{Cut, cut, in_front}
 use Rattle.sheets.specs.Laws.{Accepting, Asked, Meant}
-use Rattle.sheets.specs.Order.{kind_of_line, follows, stopped}
+use Rattle.sheets.specs.Order.{follows, stopped}
 use Rattle.sheets.specs.Reading.{Wanted, most_bytes, at_end, wanted_by, faulted, read_from, read_all}
 use Rattle.sheets.specs.Settings.{Settings, Topic, regions, polygon, unset, height_of, regions_with, polygon_with, counted, with_topic, with_cap, with_most, set_by, after_line, most_number}
 use Rattle.sheets.specs.Written.{Content, Subject, of_regions, of_polygon, Good, GoodPair, GoodSubject, sheet_of, pair_line, cap_lines, lines_of, table_after, topic_for, wanted_for}

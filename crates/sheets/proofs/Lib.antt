@@ -5,3 +5,4 @@ pub mod Turns
 pub mod Accepts
 pub mod Asks
 pub mod Refuses
+pub mod Enough

@@ -5,7 +5,7 @@ use Rattle.std.proofs.lemmas.List.{append-nil, append_assoc, length-append}
 use Rattle.std.proofs.lemmas.Bool.{le-leb, or_left, cond-true, cond-false, cases_lt}
 use Rattle.refusals.specs.declared.Refusal.{Refusal}
 use Rattle.refusals.specs.declared.Refusal.TheVariants.{FirstByte, LineForm, LineOrder, OutOfRange, BadPair, SheetShort, SheetLong}
-use Rattle.items.specs.Lines.{kind_at, line_of}
+use Rattle.items.specs.Lines.{kind_at, line_of, kind_of_line}
 use Rattle.items.specs.Texts.{text_of, Short}
 use Rattle.items.specs.declared.line.Kind.{Kind}
 use Rattle.items.specs.declared.line.Kind.TheVariants as kind
@@ -31,7 +31,7 @@ use Rattle.sheets.specs.Faults.{
   fault_at,
 }
 use Rattle.sheets.specs.Laws.{FirstFault, Refusing}
-use Rattle.sheets.specs.Order.{kind_of_line, follows, stopped}
+use Rattle.sheets.specs.Order.{follows, stopped}
 use Rattle.sheets.specs.Reading.{Wanted, at_line, most_bytes, after_bytes, at_end, wanted_by, faulted, read_from, read_all}
 use Rattle.sheets.specs.Settings.{
   Settings,
@@ -461,9 +461,6 @@ here_now before ls r n k f e g h = (
   λ i l. absurd (omega arith),
 )
 
-no_zero : (i : ℕ) → i < 0 → ⊥
-no_zero i h = omega arith
-
 located : (before ls : List (List ℕ)) (r : List ℕ) (n : ℕ) (s : Settings) (f : Fault) → Linked before s → n ≡ suc (length before)
     → read_from n s ls r ≡ Err f → Located before ls r f
 unfolding read_from here_at
@@ -559,7 +556,7 @@ values_are l x = (λ e. (spells l x).0 (ok (line_of l) e), λ h. ap result_ok ((
   where
     ok : (r : Result Line Refusal) → result_ok r ≡ Some x → r ≡ Ok x
     ok (Ok y) e = cc
-    ok (Err k) e = absurd (let z : ◌≡◌ {A = ℕ} 0 1 = cc in omega arith)
+    ok (Err k) e = cc
 
 clean_all : (bs : List ℕ) (w : Wanted) → read_all bs ≡ Ok w → (i : ℕ) → i ≤ length (cut bs).lines
     → fault_at (take i (cut bs).lines) (here_at (cut bs).lines (cut bs).rest i) ≡ None

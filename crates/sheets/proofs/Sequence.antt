@@ -1,12 +1,12 @@
 -- Which kinds of lines may come behind which.
-use Rattle.std.proofs.Common.{◌≡◌, ℕ, true, false, Some, None, refl, arith}
+use Rattle.std.proofs.Common.{◌≡◌, true, false, Some, None, refl}
 use Rattle.items.specs.declared.line.Kind.{Kind}
 use Rattle.items.specs.declared.line.Kind.TheVariants.{Regions, Polygon, Pair, Cap, Stop}
 use Rattle.sheets.specs.Order.{follows, stopped}
 use Rattle.sheets.specs.Settings.{Settings, Topic}
 
 pub no_true : {Y : Type 0} → false ≡ true → Y
-no_true e = absurd (let z : ◌≡◌ {A = ℕ} 0 1 = cc in omega arith)
+no_true e = cc
 
 -- a kind behind which a pair, a cap or the full stop may come
 abbrev pub InBody : Kind → Type 0

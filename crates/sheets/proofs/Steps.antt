@@ -2,9 +2,9 @@
 use Rattle.std.proofs.Common.{◌≡◌, ℕ, ◌+◌, Bool, true, false, List, ◌∷◌, Ok, Err, Result, ap, ◌∙◌}
 use Rattle.refusals.specs.declared.Refusal.{Refusal}
 use Rattle.refusals.specs.declared.Refusal.TheVariants.{LineOrder}
-use Rattle.items.specs.Lines.{line_of}
+use Rattle.items.specs.Lines.{line_of, kind_of_line}
 use Rattle.items.specs.declared.line.Line.{Line}
-use Rattle.sheets.specs.Order.{kind_of_line, follows, stopped}
+use Rattle.sheets.specs.Order.{follows, stopped}
 use Rattle.sheets.specs.Reading.{Wanted, at_line, after_bytes, read_from}
 use Rattle.sheets.specs.Settings.{Settings, set_by, after_line}
 use Rattle.sheets.specs.declared.fault.Fault.{Fault}

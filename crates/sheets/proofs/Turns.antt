@@ -22,7 +22,7 @@ found bs n e = go (ltb (line_length bs) (length bs)) refl
         (cc, ltb-true (line_length bs) (length bs) f)
     go false f =
         let same : Some n ≡ None = e ∙ cond-false _ (Some (line_length bs)) None f in
-        absurd (let z : ◌≡◌ {A = ℕ} 0 1 = cc in omega arith)
+        cc
 
 missing : (bs : List ℕ) → None ≡ Found bs → length bs ≤ line_length bs
 missing bs e = go (ltb (line_length bs) (length bs)) refl
@@ -30,16 +30,16 @@ missing bs e = go (ltb (line_length bs) (length bs)) refl
     go : (t : Bool) → ltb (line_length bs) (length bs) ≡ t → length bs ≤ line_length bs
     go true f =
         let same : None ≡ Some (line_length bs) = e ∙ cond-true _ (Some (line_length bs)) None f in
-        absurd (let z : ◌≡◌ {A = ℕ} 0 1 = cc in omega arith)
+        cc
     go false f = ltb-false (line_length bs) (length bs) f
 
 pub faulted_ok : {X : Type 0} (a : Result X Refusal) (n : ℕ) (x : X) → Ok x ≡ faulted a n → a ≡ Ok x
 faulted_ok (Ok y) n x e = cc
-faulted_ok {X} (Err k) n x e = absurd (let z : ◌≡◌ {A = ℕ} 0 1 = cc in omega arith)
+faulted_ok {X} (Err k) n x e = cc
 
 pub faulted_err : {X : Type 0} (a : Result X Refusal) (n : ℕ) (f : Fault) → Err f ≡ faulted a n
     → (k : Refusal) × (a ≡ Err k) × (f ≡ at_line k n)
-faulted_err {X} (Ok y) n f e = absurd (let z : ◌≡◌ {A = ℕ} 0 1 = cc in omega arith)
+faulted_err {X} (Ok y) n f e = cc
 faulted_err (Err k) n f e = (k, refl, cc)
 
 module _ (number : ℕ) (s : Settings) (rest : List ℕ) (all : Result Wanted Fault)

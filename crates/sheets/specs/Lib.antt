@@ -6,3 +6,4 @@ pub mod Written
 pub mod Faults
 pub mod Laws
 pub mod Views
+pub mod Told

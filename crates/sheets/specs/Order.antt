@@ -2,15 +2,8 @@
 use Rattle.std.specs.Prelude.{ℕ, Bool, false, ◌&&◌, ◌||◌, Some, None, Option, ◌==◌, nat_lt}
 use Rattle.items.specs.declared.line.Kind.{Kind}
 use Rattle.items.specs.declared.line.Kind.TheVariants.{Regions, Polygon, Pair, Cap, Stop}
-use Rattle.items.specs.declared.line.Line.{Line}
-use Rattle.items.specs.declared.line.Line.TheVariants as line
-
-abbrev pub kind_of_line : Line → Kind
-kind_of_line (line.Regions n) = Regions
-kind_of_line (line.Polygon n) = Polygon
-kind_of_line (line.Pair a b) = Pair
-kind_of_line (line.Cap c) = Cap
-kind_of_line (line.Stop m) = Stop
+use Rattle.sheets.specs.declared.stage.Stage.{Stage}
+use Rattle.sheets.specs.declared.stage.Stage.TheVariants as stages
 
 -- the stage of a sheet at which a kind of line stands
 abbrev pub stage : Kind → ℕ
@@ -19,6 +12,12 @@ stage Polygon = 0
 stage Pair = 1
 stage Cap = 2
 stage Stop = 3
+
+abbrev pub stage_number : Stage → ℕ
+stage_number stages.Subject = 0
+stage_number stages.Pairs = 1
+stage_number stages.Cap = 2
+stage_number stages.Stop = 3
 
 -- whether a kind may come after that of the line before: stages ascend, and only pairs repeat
 abbrev pub follows : Option Kind → Kind → Bool

@@ -1,5 +1,5 @@
 -- How a sheet is read: one function a line and a fold over the lines.
-use Rattle.std.specs.Prelude.{ℕ, ◌+◌, true, false, List, [], ◌∷◌, length, Some, None, Ok, Err, Option, Result, nat_le}
+use Rattle.std.specs.Prelude.{ℕ, ◌+◌, true, false, List, [], ◌∷◌, length, take, Some, None, Ok, Err, Option, Result, nat_le}
 use Rattle.std.specs.Option.{unwrap_or}
 use Rattle.refusals.specs.declared.Refusal.{Refusal}
 use Rattle.refusals.specs.declared.Refusal.TheVariants.{LineOrder, SheetShort, SheetLong}
@@ -12,6 +12,10 @@ use Rattle.sheets.specs.declared.fault.Fault.{Fault}
 -- the most bytes that a sheet has
 abbrev pub most_bytes : ℕ
 most_bytes = 65536
+
+-- as much of some bytes as decides what they are read as: one more than a sheet has is too long
+abbrev pub enough : List ℕ → List ℕ
+enough xs = take (most_bytes + 1) xs
 
 -- what an accepted sheet asks for: the subject, the cap, the most objects to print
 pub record Wanted : Type 0 where

@@ -2,11 +2,12 @@
 use Rattle.std.specs.Prelude.{ℕ, ◌-◌, true, false, cond, ◌&&◌, ◌||◌, Some, None, Ok, Err, Option, Result, nat_le}
 use Rattle.refusals.specs.declared.Refusal.{Refusal}
 use Rattle.refusals.specs.declared.Refusal.TheVariants.{LineOrder, OutOfRange, BadPair}
+use Rattle.items.specs.Lines.{kind_of_line}
 use Rattle.items.specs.declared.line.Kind.{Kind}
 use Rattle.items.specs.declared.line.Line.{Line}
 use Rattle.items.specs.declared.line.Line.TheVariants as line
 use Rattle.maps.specs.Touch.{Regions, begun, with_pair, pair_fault}
-use Rattle.sheets.specs.Order.{kind_of_line, follows}
+use Rattle.sheets.specs.Order.{follows}
 
 -- the numbers that a polygon, a cap and the most objects to print may be
 abbrev pub fewest_corners : ℕ

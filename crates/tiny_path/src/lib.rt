@@ -5,17 +5,20 @@ ghost use Rattle.std.specs.Prelude.{◌≡◌, ◌<◌};
 ghost use Rattle.tiny_path.specs.Laws.{path_lawful, path_stands};
 ghost use Rattle.tiny_path.specs.Listed.{Listed};
 ghost use Rattle.tiny_path.specs.Setup.{code, path};
+ghost use Rattle.tiny_path.specs.declared.TheConstants.{OBJECTS};
 
 use oracle::coded::Coded;
-use oracle::step::Step;
 use oracle::walking::Walking;
 use refusals::Refusal;
 
 const OBJECTS: u8 = 3;
 
-const WIDTH: usize = 4;
+// Edges between two neighbours: an edge joins a slot below to the one that is so many further above.
+const EDGES: usize = 2;
 
-const HEIGHT: u32 = 2;
+const WIDTH: usize = 2 * EDGES;
+
+const HEIGHT: u32 = OBJECTS as u32 - 1;
 
 const SIZE: usize = 1;
 
@@ -23,7 +26,7 @@ const SIZE: usize = 1;
 #[derive(Clone, Copy)]
 pub struct TinyPath {
     at: u8,
-    ghost within: { at < 3 },
+    ghost within: { at < OBJECTS },
 }
 
 impl TinyPath {
@@ -68,17 +71,17 @@ impl Walking for TinyPath {
         if self.at == 0 { None } else { Some(1) }
     }
 
-    fn step(&mut self, slot: usize) -> Result<Step, Refusal> {
+    fn step(&mut self, slot: usize) -> Result<Option<usize>, Refusal> {
         if slot >= WIDTH {
             Err(Refusal::SlotRange)
-        } else if slot < 2 && self.at > 0 {
+        } else if slot < EDGES && self.at > 0 {
             self.at -= 1;
-            Ok(Step::Back(slot + 2))
-        } else if slot >= 2 && self.at + 1 < OBJECTS {
+            Ok(Some(slot + EDGES))
+        } else if slot >= EDGES && self.at + 1 < OBJECTS {
             self.at += 1;
-            Ok(Step::Back(slot - 2))
+            Ok(Some(slot - EDGES))
         } else {
-            Ok(Step::Vacant)
+            Ok(None)
         }
     }
 }
@@ -89,22 +92,21 @@ impl Coded for TinyPath {
     }
 
     fn put(&self, buffer: &mut [u8]) -> Result<(), Refusal> {
-        if buffer.len() < SIZE {
+        let [first, ..] = buffer else {
             return Err(Refusal::BufferShort);
-        }
-        buffer[0] = self.at;
+        };
+        *first = self.at;
         Ok(())
     }
 
     fn take(&mut self, row: &[u8]) -> Result<(), Refusal> {
-        let [at] = row else {
-            return Err(Refusal::NotACode);
-        };
-        if *at >= OBJECTS {
-            return Err(Refusal::NotACode);
+        match row {
+            [at] if *at < OBJECTS => {
+                self.at = *at;
+                Ok(())
+            }
+            _ => Err(Refusal::NotACode),
         }
-        self.at = *at;
-        Ok(())
     }
 }
 

@@ -10,30 +10,15 @@ use oracle::walking::Walking;
 #[test]
 fn walks_the_path(rt: HostRuntime) {
     let mut path = TinyPath::new();
-    assert!(rt;
-        walk(&mut path, 0)
-            == Outcome {
-                reached: Reached::Child,
-                steps: 5,
-            }
-    );
-    assert_eq!(rt; path.rank(), 1);
-    assert!(rt;
-        walk(&mut path, 0)
-            == Outcome {
-                reached: Reached::Child,
-                steps: 7,
-            }
-    );
-    assert_eq!(rt; path.rank(), 2);
-    assert!(rt;
-        walk(&mut path, 0)
-            == Outcome {
-                reached: Reached::End,
-                steps: 8,
-            }
-    );
-    assert_eq!(rt; path.rank(), 0);
+    let walks = [
+        (Reached::Child, 5, 1),
+        (Reached::Child, 7, 2),
+        (Reached::End, 8, 0),
+    ];
+    for (reached, steps, rank) in walks {
+        assert!(rt; walk(&mut path, 0) == Outcome { reached, steps });
+        assert_eq!(rt; path.rank(), rank);
+    }
 }
 
 // Past the last slot the walk rises at once.

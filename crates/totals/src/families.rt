@@ -1,7 +1,7 @@
 //! Families of maps of which it is known how many connected sets they have.
-use anyhow::anyhow;
 use maps::{Draft, Map};
 use refusals::Refusal;
+use std::fmt;
 
 #[derive(Clone, Copy)]
 pub(crate) enum Family {
@@ -17,86 +17,55 @@ pub(crate) enum Family {
     Grid,
 }
 
-impl Family {
-    pub(crate) fn name(self) -> &'static str {
+impl fmt::Display for Family {
+    fn fmt<W: fmt::Write>(&self, f: &mut fmt::Formatter<W>) -> fmt::Result {
         match self {
-            Family::Path => "path",
-            Family::Cycle => "cycle",
-            Family::Complete => "complete",
-            Family::Star => "star",
-            Family::Grid => "grid",
-        }
-    }
-
-    pub(crate) fn map(self, n: u32) -> anyhow::Result<Map> {
-        let drawn = match self {
-            Family::Path => path(n),
-            Family::Cycle => cycle(n),
-            Family::Complete => complete(n),
-            Family::Star => star(n),
-            Family::Grid => grid(n),
-        };
-        match drawn {
-            Ok(map) => Ok(map),
-            Err(_) => Err(anyhow!("a family has no map of this size")),
+            Family::Path => f.write_str("path"),
+            Family::Cycle => f.write_str("cycle"),
+            Family::Complete => f.write_str("complete"),
+            Family::Star => f.write_str("star"),
+            Family::Grid => f.write_str("grid"),
         }
     }
 }
 
-fn path(n: u32) -> Result<Map, Refusal> {
+impl Family {
+    pub(crate) fn map(self, n: u32) -> Result<Map, Refusal> {
+        match self {
+            Family::Path => draw(n, |a, b| a.abs_diff(b) == 1),
+            Family::Cycle => draw(
+                n,
+                |a, b| a.abs_diff(b) == 1 || a == 0 && n.checked_sub(b) == Some(1),
+            ),
+            Family::Complete => draw(n, |_, _| true),
+            Family::Star => draw(n, |a, _| a == 0),
+            Family::Grid => draw(n.saturating_mul(n), |a, b| {
+                let apart = a.abs_diff(b);
+                apart == n || apart == 1 && b.checked_rem(n) != Some(0)
+            }),
+        }
+    }
+}
+
+// A map of n regions, of which those touch that the rule names, a lower number before a higher.
+fn draw<F: Fn(u32, u32) -> bool + Drop>(n: u32, touch: F) -> Result<Map, Refusal>
+    requires { F.IsAlwaysCallable touch }
+{
     let mut draft = Draft::new(n)?;
     for b in 1..n {
-        draft.add(b - 1, b)?;
+        join_lower(&mut draft, b, &touch)?;
     }
     Ok(draft.seal())
 }
 
-fn cycle(n: u32) -> Result<Map, Refusal> {
-    let mut draft = Draft::new(n)?;
-    for a in 0..n {
-        draft.add(a, (a + 1) % n)?;
-    }
-    Ok(draft.seal())
-}
-
-fn complete(n: u32) -> Result<Map, Refusal> {
-    let mut draft = Draft::new(n)?;
-    for b in 1..n {
-        join_lower(&mut draft, b)?;
-    }
-    Ok(draft.seal())
-}
-
-// Region b touches every region of a lower number.
-fn join_lower(draft: &mut Draft, b: u32) -> Result<(), Refusal> {
+// Joins a region to those of a lower number that it touches.
+fn join_lower<F: Fn(u32, u32) -> bool>(draft: &mut Draft, b: u32, touch: &F) -> Result<(), Refusal>
+    requires { F.IsAlwaysCallable touch.now }
+{
     for a in 0..b {
-        draft.add(a, b)?;
+        if touch(a, b) {
+            draft.add(a, b)?;
+        }
     }
     Ok(())
-}
-
-fn star(n: u32) -> Result<Map, Refusal> {
-    let mut draft = Draft::new(n)?;
-    for b in 1..n {
-        draft.add(0, b)?;
-    }
-    Ok(draft.seal())
-}
-
-fn grid(side: u32) -> Result<Map, Refusal> {
-    if side == 0 {
-        return Err(Refusal::OutOfRange);
-    }
-    let cells = side.saturating_mul(side);
-    let mut draft = Draft::new(cells)?;
-    for cell in 0..cells {
-        let right = cell + 1;
-        if right % side > 0 {
-            draft.add(cell, right)?;
-        }
-        if cells - cell > side {
-            draft.add(cell, cell + side)?;
-        }
-    }
-    Ok(draft.seal())
 }

@@ -4,68 +4,54 @@
 mod counting;
 mod families;
 
-use anyhow::anyhow;
+use anyhow::Context;
 use cap::Cap;
 use counting::{filled, total};
 use engine::tally::Tally;
 use families::Family;
 use polygon::Polygon;
 use regions::Regions;
+use std::fmt::Display;
 
 fn print_polygon(rt: &HostRuntime, n: u32) -> anyhow::Result<()> {
-    let Ok(polygon) = Polygon::new(n) else {
-        return Err(anyhow!("the corners are out of range"));
-    };
-    let Some(tally) = total(polygon) else {
+    let Some(tally) = total(Polygon::new(n)?) else {
         println!(rt; "polygon {n} not reached")?;
         return Ok(());
     };
+    let filled = filled(tally, u64::from(n)).context("fewer steps than slots")?;
     let objects = tally.objects;
-    let Some(filled) = filled(tally, u64::from(n)) else {
-        return Err(anyhow!("fewer steps than slots"));
-    };
     println!(rt; "polygon {n} objects {objects} filled {filled}")?;
     Ok(())
 }
 
-fn print_total(rt: &HostRuntime, label: &str, total: Option<Tally>) -> anyhow::Result<()> {
+fn print_total(
+    rt: &HostRuntime,
+    label: impl Display + Drop,
+    total: Option<Tally>,
+) -> anyhow::Result<()> {
     match total {
-        Some(tally) => {
-            let objects = tally.objects;
-            println!(rt; "{label} objects {objects}")?;
-        }
+        Some(Tally { objects, .. }) => println!(rt; "{label} objects {objects}")?,
         None => println!(rt; "{label} not reached")?,
     }
     Ok(())
 }
 
-// The connected sets of a family's map, the empty one among them.
-fn print_sets(rt: &HostRuntime, family: Family, n: u32) -> anyhow::Result<()> {
-    let map = family.map(n)?;
-    let name = family.name();
-    let label = format!(in rt.alloc(); "{name} {n}")?;
-    print_total(rt, label.as_str(), total(Regions::new(&map)))
-}
-
-// Those of at most so many regions.
-fn print_capped(rt: &HostRuntime, family: Family, n: u32, most: u32) -> anyhow::Result<()> {
-    let map = family.map(n)?;
-    let name = family.name();
-    let label = format!(in rt.alloc(); "{name} {n} cap {most}")?;
-    let capped = Cap::new(Regions::new(&map), most);
-    print_total(rt, label.as_str(), total(capped))
-}
-
+// The connected sets of a family's maps, the empty one among them.
 fn print_sizes(rt: &HostRuntime, family: Family, sizes: &[u32]) -> anyhow::Result<()> {
     for n in sizes {
-        print_sets(rt, family, *n)?;
+        let map = family.map(*n)?;
+        let sets = total(Regions::new(&map));
+        print_total(rt, format_args!("{family} {n}"), sets)?;
     }
     Ok(())
 }
 
+// Those of one map that have at most so many regions.
 fn print_caps(rt: &HostRuntime, family: Family, n: u32, caps: &[u32]) -> anyhow::Result<()> {
+    let map = family.map(n)?;
     for most in caps {
-        print_capped(rt, family, n, *most)?;
+        let sets = total(Cap::new(Regions::new(&map), *most));
+        print_total(rt, format_args!("{family} {n} cap {most}"), sets)?;
     }
     Ok(())
 }

@@ -1,9 +1,6 @@
-use Rattle.std.proofs.Common.{sym}
-use Rattle.digits.proofs.Digits.{bit_test, bit_past}
+use Rattle.std.proofs.Common.{ℕ, bit_and, ap, ◌∙◌}
+use Rattle.digits.proofs.Digits.{bit_test_any}
 use Rattle.digits.proofs.digit.Goals as goal
 
-pub returns-then-i-lt64 : goal.returns-then-i-lt64
-returns-then-i-lt64 c = bit_test c.args.s c.args.i
-
-pub returns-else-i-lt64 : goal.returns-else-i-lt64
-returns-else-i-lt64 c = sym (bit_past 64 c.args.s c.args.i c.ranges.s.fits c.if-i-lt64.false)
+pub returns : goal.returns
+returns c = ap (λ (x : ℕ). bit_and x 1) c.unbounded_shr.ensures ∙ bit_test_any c.args.s c.args.i c.ranges.s.fits

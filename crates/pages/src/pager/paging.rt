@@ -11,29 +11,26 @@ use std::alloc::AllocError;
 impl<O: Coded> Pager<O> {
     // Appends the next lines, at most so many.
     fn fill(&mut self, out: &mut Vec<u8>, limit: usize) -> Result<(), AllocError>
-        requires { O.Walking.sound self.old.census.oracle }
-        ensures sound { O.Walking.sound self.new.census.oracle }
         ensures setup { O.Walking.setup self.new.census.oracle ≡ O.Walking.setup self.old.census.oracle }
-        ensures filled { Filled limit out.old.items (left O.Walking.setup O.Walking.current self.old) result (out.new.items, left O.Walking.setup O.Walking.current self.new) self.new.done }
+        ensures filled { Filled limit out.old.items (left O.Walking.setup self.old) result (out.new.items, left O.Walking.setup self.new) self.new.done }
         ensures capacity { vec_capacity out.old ≤ vec_capacity out.new }
-        ensures succeeds { vec_len out.old + page_room (O.Walking.setup self.old.census.oracle) limit (left O.Walking.setup O.Walking.current self.old) ≤ vec_capacity out.old → is_ok result ≡ true }
+        ensures succeeds { vec_len out.old + page_room (O.Walking.setup self.old.census.oracle) limit (left O.Walking.setup self.old) ≤ vec_capacity out.old → is_ok result ≡ true }
     {
-        let mut lines = 0;
-        while lines < limit && !self.done {
+        'lines: for _ in 0..limit {
+            if self.done {
+                break;
+            }
             self.turn(out)?;
-            lines += 1;
         }
         Ok(())
     }
 
     // Appends the next lines, at most so many, and says whether the last one is written.
     pub fn page(&mut self, out: &mut Vec<u8>, limit: usize) -> Result<bool, AllocError>
-        requires { O.Walking.sound self.old.census.oracle }
-        ensures sound { O.Walking.sound self.new.census.oracle }
         ensures setup { O.Walking.setup self.new.census.oracle ≡ O.Walking.setup self.old.census.oracle }
-        ensures paged { Paged limit out.old.items (left O.Walking.setup O.Walking.current self.old) result (out.new.items, left O.Walking.setup O.Walking.current self.new) }
+        ensures paged { Paged limit out.old.items (left O.Walking.setup self.old) result (out.new.items, left O.Walking.setup self.new) }
         ensures capacity { vec_capacity out.old ≤ vec_capacity out.new }
-        ensures succeeds { vec_len out.old + page_room (O.Walking.setup self.old.census.oracle) limit (left O.Walking.setup O.Walking.current self.old) ≤ vec_capacity out.old → is_ok result ≡ true }
+        ensures succeeds { vec_len out.old + page_room (O.Walking.setup self.old.census.oracle) limit (left O.Walking.setup self.old) ≤ vec_capacity out.old → is_ok result ≡ true }
     {
         self.fill(out, limit)?;
         Ok(self.done)

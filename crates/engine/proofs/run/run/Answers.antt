@@ -6,22 +6,17 @@ use Rattle.engine.proofs.RunCounts.{run_counted}
 use Rattle.engine.proofs.run.run.Goals as goal
 use Rattle.engine.specs.Acts.{plain_act}
 use Rattle.engine.specs.Runs.{order_of, entry_of, plain_run}
-use Rattle.engine.specs.View.{shown}
-
-pub loop-call-init : goal.loop-call-init
-loop-call-init g c = record { sound_now = c.new-census.ensures.sound; setup_same = refl; in_step = refl }
 
 pub loop-call-preserved : goal.loop-call-preserved
 loop-call-preserved g c =
     let W = g.O.Walking in
     let s = W.setup c.new-census.result.oracle in
-    let v = shown W.setup W.current c.loop-call.census in
-    let after = shown W.setup W.current c.perform-call.new.self in
+    let v = c.loop-call.census.view in
+    let after = c.perform-call.new.self.view in
     let calls = c.loop-call.calls in
     let i = c.loop-call.call-index in
     let call = get_or calls i c.call-item.result in
     record {
-      sound_now = c.perform-call.ensures.sound;
       setup_same = c.perform-call.ensures.setup ∙ c.loop-call.invariant.setup_same;
       in_step =
           one_more s v after calls i c.call-item.result _ (omega arith) refl c.tally-call.ensures
@@ -35,14 +30,13 @@ pub returns : goal.returns
 returns g c =
     let W = g.O.Walking in
     let s = W.setup c.args.oracle in
-    let v = shown W.setup W.current c.loop-call.census in
+    let v = c.loop-call.census.view in
     let asked = map order_of c.args.calls.now in
     let stepped =
     all_done (W.setup c.new-census.result.oracle) v c.loop-call.calls c.loop-call.call-index (omega arith)
     ∙ c.loop-call.invariant.in_step
     ∙ ap₂ (λ n w. plain_run n w asked) c.new-census.ensures.setup c.new-census.ensures.begun in
     record {
-      sound = c.loop-call.invariant.sound_now;
       setup = c.loop-call.invariant.setup_same ∙ c.new-census.ensures.setup;
       complete = complete s (W.lawful c.args.oracle c.requires);
       in_step = stepped;

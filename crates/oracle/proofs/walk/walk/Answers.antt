@@ -1,19 +1,7 @@
 use Rattle.std.proofs.Common.{sym, ◌∙◌, arith}
-use Rattle.oracle.proofs.Turns.{scanned, scan_below, scan_over, scan_rank, back_below, scan_vacant, scan_other, ends_at_child, ends_at_root, rise_on, risen_lower, risen_below, ended_next}
+use Rattle.oracle.proofs.Turns.{scanned, scan_below, scan_over, scan_vacant, scan_other, ends_at_child, ends_at_root, rise_on, ended_next}
 use Rattle.oracle.proofs.walk.walk.Goals as goal
 use Rattle.oracle.proofs.walk.walk.Goals.{in-Some+else-leads_home, in_default}
-
--- the return slot is below the width
-pub cross-requires-in-Some : goal.cross-requires-in-Some
-cross-requires-in-Some g c =
-    record {
-      sound = c.cross.ensures.sound;
-      below =
-          back_below c.scan.invariant
-          (scan_below (scanned c.rising.invariant c.scan.invariant) c.width-width.ensures (omega (arith, c.scan-test.true)))
-          (record { sound_now = c.cross.ensures.sound; setup_same = c.cross.ensures.setup; crossed = c.cross.ensures.crossed })
-          c.in-Some.is;
-    }
 
 -- one slot further, the same object is current
 pub scan-preserved : goal.scan-preserved
@@ -37,32 +25,16 @@ scan-preserved g c =
           (omega (arith, w.steps-is, c.cross.ensures.counted))
     ]
 
-pub overflow_add-slot-in-rising : goal.overflow_add-slot-in-rising
-overflow_add-slot-in-rising g c =
-    let small =
-    risen_below g.row.O.Denot g.O.Walking c.scan.oracle c.rise-slot.new.oracle c.in-Some-home.up c.rise-slot.result c.scan.invariant.sound_now (sym c.home.ensures ∙ c.in-Some-home.is)
-    c.rise-slot.ensures.risen in
-    omega arith
-
--- the parent has a lower rank
-pub rising-smaller : goal.rising-smaller
-rising-smaller g c =
-    let lower =
-    risen_lower g.row.O.Denot g.O.Walking c.scan.oracle c.rise-slot.new.oracle c.in-Some-home.up c.rise-slot.result c.scan.invariant.sound_now (sym c.home.ensures ∙ c.in-Some-home.is)
-    c.rise-slot.ensures.risen
-    c.rise-slot.ensures.setup in
-    omega (arith, lower, scan_rank c.scan.invariant)
-
 -- the walk goes on from the parent
 pub rising-preserved : goal.rising-preserved
 rising-preserved g c =
     rise_on (scanned c.rising.invariant c.scan.invariant)
     (scan_over (scanned c.rising.invariant c.scan.invariant) c.width-width.ensures (omega (arith, c.scan-test.false)))
     (sym c.home.ensures ∙ c.in-Some-home.is)
-    c.rise-slot.ensures.sound
-    c.rise-slot.ensures.setup
-    c.rise-slot.ensures.risen
-    c.rise-slot.ensures.counted
+    c.rise-next.ensures.sound
+    c.rise-next.ensures.setup
+    c.rise-next.ensures.risen
+    c.rise-next.ensures.counted
 
 -- a child is reached
 pub returns-then-leads_home : goal.returns-then-leads_home

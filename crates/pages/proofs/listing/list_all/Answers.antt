@@ -1,6 +1,6 @@
-use Rattle.std.proofs.Common.{◌≡◌, ℕ, ◌+◌, ◌≤◌, ◌++◌, length, take, vec_items, vec_len, vec_capacity, sym, refl, ap, ◌∙◌, subst, arith}
+use Rattle.std.proofs.Common.{◌≡◌, ℕ, ◌+◌, ◌≤◌, ◌++◌, length, take, vec_items, vec_len, vec_capacity, sym, ap, ◌∙◌, subst, arith}
 use Rattle.std.specs.List.{concat}
-use Rattle.pages.proofs.Onward.{pages_fall, pages_on, pages_end, room_onward, stopped_short}
+use Rattle.pages.proofs.Onward.{pages_on, pages_end, room_onward, stopped_short}
 use Rattle.pages.proofs.listing.list_all.Goals as goal
 use Rattle.pages.specs.Left.{left}
 use Rattle.pages.specs.Lines.{line_room, page_room}
@@ -10,7 +10,7 @@ returns-in_err-page g c =
     let W = g.O.Walking in
     let stop = c.in_err-page.ensures.paged in
     let n = c.pages.invariant.turns in
-    let far = pages_on stop.0 n (vec_items c.args.out.now) (vec_items c.pages.out) (vec_items c.page.new.out) (left W.setup W.current c.new-pager.result) (left W.setup W.current c.pages.pager) (left W.setup W.current c.page.new.self) c.pages.invariant.turned_so_far stop.2 in
+    let far = pages_on stop.0 n (vec_items c.args.out.now) (vec_items c.pages.out) (vec_items c.page.new.out) (left W.setup c.new-pager.result) (left W.setup c.pages.pager) (left W.setup c.page.new.self) c.pages.invariant.turned_so_far stop.2 in
     let l = c.pages in
     let s = W.setup c.args.oracle in
     record {
@@ -19,39 +19,27 @@ returns-in_err-page g c =
           (ap (λ x. x.0) far ∙ ap (λ l. vec_items c.args.out.now ++ concat (take (n + stop.0) l)) c.new-pager.ensures.lines);
       succeeds = λ enough.
           let all = subst (λ t. vec_len c.args.out.now + (length (concat t) + line_room s) ≤ vec_capacity c.args.out.now) (sym c.new-pager.ensures.lines) enough in
-          let room = room_onward c.max-lines.result n (line_room s) c.args.out.now l.out (left W.setup W.current c.new-pager.result) (left W.setup W.current l.pager) l.invariant.capacity l.invariant.turned_so_far all in
-          let f = c.in_err-page.ensures.succeeds (subst (λ t. vec_len l.out + page_room t c.max-lines.result (left W.setup W.current l.pager) ≤ vec_capacity l.out) (sym (l.invariant.setup_same ∙ c.new-pager.ensures.setup)) room) in
+          let room = room_onward c.max-lines.result n (line_room s) c.args.out.now l.out (left W.setup c.new-pager.result) (left W.setup l.pager) l.invariant.capacity l.invariant.turned_so_far all in
+          let f = c.in_err-page.ensures.succeeds (subst (λ t. vec_len l.out + page_room t c.max-lines.result (left W.setup l.pager) ≤ vec_capacity l.out) (sym (l.invariant.setup_same ∙ c.new-pager.ensures.setup)) room) in
           let z : ◌≡◌ {A = ℕ} 0 1 = cc in
           absurd (omega arith);
     }
 
-pub returns-then-branch : goal.returns-then-branch
-returns-then-branch g c =
+pub returns-then-branch-clause-listed : goal.returns-then-branch-clause-listed
+returns-then-branch-clause-listed g c =
     let W = g.O.Walking in
     let h = c.in_ok-page.ensures.paged in
-    record {
-      listed =
-          pages_end c.in_ok-page.field-0 c.max-lines.result c.pages.invariant.turns (vec_items c.args.out.now) (vec_items c.pages.out) (vec_items c.page.new.out) (left W.setup W.current c.new-pager.result) (left W.setup W.current c.pages.pager) (left W.setup W.current c.page.new.self) c.pages.invariant.turned_so_far h.0 c.if-branch.true h.1
-          ∙ ap (λ l. vec_items c.args.out.now ++ concat l) c.new-pager.ensures.lines;
-      succeeds = λ _. refl;
-    }
-
-pub pages-smaller : goal.pages-smaller
-pages-smaller g c =
-    let W = g.O.Walking in
-    let h = c.in_ok-page.ensures.paged in
-    let some : 1 ≤ c.max-lines.result = omega (arith, c.max-lines.ensures) in
-    pages_fall c.in_ok-page.field-0 c.max-lines.result (vec_items c.pages.out) (vec_items c.page.new.out) (left W.setup W.current c.pages.pager) (left W.setup W.current c.page.new.self) h.0 c.if-branch.false some h.1
+    pages_end c.in_ok-page.field-0 c.max-lines.result c.pages.invariant.turns (vec_items c.args.out.now) (vec_items c.pages.out) (vec_items c.page.new.out) (left W.setup c.new-pager.result) (left W.setup c.pages.pager) (left W.setup c.page.new.self) c.pages.invariant.turned_so_far h.0 c.if-branch.true h.1
+    ∙ ap (λ l. vec_items c.args.out.now ++ concat l) c.new-pager.ensures.lines
 
 pub pages-preserved : goal.pages-preserved
 pages-preserved g c =
     let W = g.O.Walking in
     let h = c.in_ok-page.ensures in
     record {
-      sound_now = h.sound;
       setup_same = h.setup ∙ c.pages.invariant.setup_same;
       capacity = omega (arith, h.capacity);
       turns = c.pages.invariant.turns + c.max-lines.result;
       turned_so_far =
-          pages_on c.max-lines.result c.pages.invariant.turns (vec_items c.args.out.now) (vec_items c.pages.out) (vec_items c.page.new.out) (left W.setup W.current c.new-pager.result) (left W.setup W.current c.pages.pager) (left W.setup W.current c.page.new.self) c.pages.invariant.turned_so_far h.paged.1;
+          pages_on c.max-lines.result c.pages.invariant.turns (vec_items c.args.out.now) (vec_items c.pages.out) (vec_items c.page.new.out) (left W.setup c.new-pager.result) (left W.setup c.pages.pager) (left W.setup c.page.new.self) c.pages.invariant.turned_so_far h.paged.1;
     }

@@ -7,4 +7,4 @@ abbrev pub invariant-pages : goal.invariant-pages
 invariant-pages g l = Listing g.row.O.Denot g.O.Walking l.initial.pager l.pager l.initial.out l.out
 
 abbrev pub decreases-pages : goal.decreases-pages
-decreases-pages g l = length (left g.O.Walking.setup g.O.Walking.current l.pager)
+decreases-pages g l = length (left g.O.Walking.setup l.pager)

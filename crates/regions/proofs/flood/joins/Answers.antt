@@ -1,5 +1,5 @@
-use Rattle.std.proofs.Common.{◌≡◌, ◌-◌, ◌^◌, ◌<◌, sym, refl, subst, subst₂, arith}
-use lib.Bits.{bit_or}
+use Rattle.std.proofs.Common.{◌-◌, ◌^◌, ◌<◌, get_or, sym, refl, subst, subst₂, arith}
+use lib.Bits.{bit_and, bit_or}
 use lib.Count.{count_trailing_zeros}
 use Rattle.std.proofs.lemmas.Nat.{one_shl}
 use Rattle.std.proofs.lemmas.Bool.{false≢true}
@@ -23,20 +23,20 @@ use Rattle.connected.proofs.Decided.{none_joined}
 use Rattle.regions.proofs.flood.joins.Goals as goal
 
 pub returns-then-ends-eq0 : goal.returns-then-ends-eq0
-returns-then-ends-eq0 c = (λ e. none_joined c.args.rows.now c.args.set c.args.ends c.if-ends-eq0.true, λ k. refl)
+returns-then-ends-eq0 c = (λ e. none_joined c.args.map.now.rows c.args.set c.args.ends c.if-ends-eq0.true, λ k. refl)
 
 pub loop-seen-init : goal.loop-seen-init
 loop-seen-init c =
     let s = c.args.set in
     let a = count_trailing_zeros 64 c.args.ends in
     let low = trailing_is 64 c.args.ends (omega arith) c.ranges.ends.fits in
-    let m = member_within c.args.ends s a c.requires.members low.1 in
-    subst (λ x. Flooding c.args.rows.now s a x 0) (sym (one_shl a 64 low.0)) (flooding_none c.args.rows.now s a low.0 m)
+    let m = member_within c.args.ends s a c.requires low.1 in
+    subst (λ x. Flooding c.args.map.now.rows s a x 0) (sym (one_shl a 64 low.0)) (flooding_none c.args.map.now.rows s a low.0 m)
 
 -- nothing is left to look at, and an end is not reached
 pub returns-then-frontier-eq0 : goal.returns-then-frontier-eq0
 returns-then-frontier-eq0 c =
-    let t = c.args.rows.now in
+    let t = c.args.map.now.rows in
     let s = c.args.set in
     let ends = c.args.ends in
     let l = c.loop-seen in
@@ -51,47 +51,46 @@ returns-then-frontier-eq0 c =
 pub bounds-rows-next : goal.bounds-rows-next
 bounds-rows-next c =
     let l = c.loop-seen in
-    next_below c.args.rows.now c.args.set (count_trailing_zeros 64 c.args.ends) l.seen l.done l.invariant
+    next_below c.args.map.now.rows c.args.set (count_trailing_zeros 64 c.args.ends) l.seen l.done l.invariant
     (apart_from_xor l.seen l.done c.if-frontier-eq0.false)
 
--- the region looked at in a turn, and that it was not looked at before
-turn : (c : goal.After-let_in-seen)
-    → (next c.loop-seen.seen c.loop-seen.done < 64) × (bit c.loop-seen.done (next c.loop-seen.seen c.loop-seen.done) ≡ 0)
-turn c =
-    let l = c.loop-seen in
-    let a = count_trailing_zeros 64 c.args.ends in
-    let n = apart_from_xor l.seen l.done c.if-frontier-eq0.false in (
-      next_below c.args.rows.now c.args.set a l.seen l.done l.invariant n,
-      next_left c.args.rows.now c.args.set a l.seen l.done l.invariant n,
-    )
-
 pub overflow_shl-done : goal.overflow_shl-done
-overflow_shl-done c = (turn c).0
+overflow_shl-done c =
+    let l = c.loop-seen in
+    next_below c.args.map.now.rows c.args.set (count_trailing_zeros 64 c.args.ends) l.seen l.done l.invariant
+    (apart_from_xor l.seen l.done c.if-frontier-eq0.false)
 
 pub loop-seen-smaller : goal.loop-seen-smaller
 loop-seen-smaller c =
-    let d = c.loop-seen.done in
-    let i = next c.loop-seen.seen d in
-    let grown = looked_grows 64 d i (turn c).0 (turn c).1 in
+    let l = c.loop-seen in
+    let d = l.done in
+    let i = next l.seen d in
+    let t = c.args.map.now.rows in
+    let s = c.args.set in
+    let a = count_trailing_zeros 64 c.args.ends in
+    let n = apart_from_xor l.seen d c.if-frontier-eq0.false in
+    let below = next_below t s a l.seen d l.invariant n in
+    let grown = looked_grows 64 d i below (next_left t s a l.seen d l.invariant n) in
     let few = count_le 64 (bit (bit_or d (2 ^ i))) (λ j l. bit_small (bit_or d (2 ^ i)) j) in
-    subst (λ x. 64 - count 64 (bit (bit_or d x)) < 64 - count 64 (bit d)) (sym (one_shl i 64 (turn c).0)) (omega arith)
+    subst (λ x. 64 - count 64 (bit (bit_or d x)) < 64 - count 64 (bit d)) (sym (one_shl i 64 below)) (omega arith)
 
 pub loop-seen-preserved : goal.loop-seen-preserved
 loop-seen-preserved c =
     let l = c.loop-seen in
-    let t = c.args.rows.now in
+    let t = c.args.map.now.rows in
     let s = c.args.set in
     let a = count_trailing_zeros 64 c.args.ends in
     let i = next l.seen l.done in
     let n = apart_from_xor l.seen l.done c.if-frontier-eq0.false in
-    let more = flooding_more t s a l.seen l.done i c.ranges.set.fits (turn c).0 l.invariant (next_seen t s a l.seen l.done l.invariant n) in
-    subst₂ (λ x y. Flooding t s a x (bit_or l.done y)) (sym c.let_in-seen.ensures) (sym (one_shl i 64 (turn c).0)) more
+    let below = next_below t s a l.seen l.done l.invariant n in
+    let more = flooding_more t s a l.seen l.done i c.ranges.set.fits below l.invariant (next_seen t s a l.seen l.done l.invariant n) in
+    subst₂ (λ x y. Flooding t s a (bit_or l.seen (bit_and (get_or x i 0) s)) (bit_or l.done y)) (sym c.rows-rows.ensures) (sym (one_shl i 64 below)) more
 
 pub returns : goal.returns
 returns c =
     let l = c.loop-seen in
     let ends = c.args.ends in
     let whole = within_from_meet l.seen ends c.loop-seen-test.false in (
-      λ e. flooding_joins c.args.rows.now c.args.set ends (count_trailing_zeros 64 ends) l.seen l.done c.requires.touching l.invariant whole,
+      λ e. flooding_joins c.args.map.now.rows c.args.set ends (count_trailing_zeros 64 ends) l.seen l.done c.args.map.now.mutual l.invariant whole,
       λ k. refl,
     )

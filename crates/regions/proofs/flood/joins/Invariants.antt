@@ -5,7 +5,7 @@ use Rattle.connected.proofs.Flooding.{Flooding}
 use Rattle.regions.proofs.flood.joins.Given as goal
 
 abbrev pub invariant-loop-seen : goal.invariant-loop-seen
-invariant-loop-seen l = Flooding l.rows l.set (count_trailing_zeros 64 l.ends) l.seen l.done
+invariant-loop-seen l = Flooding l.map.rows l.set (count_trailing_zeros 64 l.ends) l.seen l.done
 
 -- the regions not looked at yet
 abbrev pub decreases-loop-seen : goal.decreases-loop-seen

@@ -1,6 +1,5 @@
-use Rattle.std.proofs.Common.{◌^◌, ltb, Decides, sym, ap, ◌∙◌, subst}
+use Rattle.std.proofs.Common.{◌^◌, ltb, sym, ap, ◌∙◌}
 use Rattle.std.proofs.lemmas.Bool.{ltb-true}
-use Rattle.connected.specs.Connected.{Connected}
 use Rattle.regions.proofs.Coded.{judged, is_set_out}
 use Rattle.regions.proofs.judging.is_set.Goals as goal
 
@@ -9,8 +8,7 @@ returns-then-within c =
     let s = c.args.set in
     let m = c.args.map.now in
     let inside = ltb-true s (2 ^ m.n) (sym (c.if-within.ensures ∙ ap (λ k. ltb s (2 ^ k)) c.regions.ensures.value)) in
-    judged m s c.is_connected.result inside
-    (subst (λ t. Decides c.is_connected.result (Connected t s)) c.rows.ensures c.is_connected.ensures)
+    judged m s c.joins.result inside c.joins.ensures
 
 pub returns-else-within : goal.returns-else-within
 returns-else-within c =

@@ -1,27 +1,22 @@
-use Rattle.std.proofs.Common.{sym, refl}
+use Rattle.std.proofs.Common.{rules, ◌≡◌, ◌≤◌, ◌<◌, length, get_or, sym, ◌∙◌}
 use Rattle.items.proofs.Reading.{item_end, item_letter, item_cut}
 use Rattle.items.proofs.lexer.Lexer.next_item.Goals as goal
 
-pub returns-then-start-line : goal.returns-then-start-line
-returns-then-start-line c =
-    record { item = sym (item_end c.args.self.now.line.now c.args.self.now.place.at c.if-start-line.true); place = refl; line = refl; number = refl }
+pub returns-in_default-clause-item : goal.returns-in_default-clause-item
+returns-in_default-clause-item c =
+    let past : length c.args.self.now.line.now ≤ c.args.self.now.place.at = search rules in
+    sym (item_end c.args.self.now.line.now c.args.self.now.place.at past)
 
-pub returns-then-first-ne32 : goal.returns-then-first-ne32
-returns-then-first-ne32 c =
-    record {
-      item = sym (item_letter c.args.self.now.line.now c.args.self.now.place.at c.if-start-line.false c.if-first-ne32.true);
-      place = refl;
-      line = refl;
-      number = refl;
-    }
+pub returns-then-first-ne32-clause-item : goal.returns-then-first-ne32-clause-item
+returns-then-first-ne32-clause-item c =
+    let within : c.args.self.now.place.at < length c.args.self.now.line.now = search rules in
+    let same : c.in-Some.first.now ≡ get_or c.args.self.now.line.now c.args.self.now.place.at 0 = search rules in
+    let told = item_letter c.args.self.now.line.now c.args.self.now.place.at within (λ e. c.if-first-ne32.true (same ∙ e)) in
+    cc
 
-pub returns : goal.returns
-returns c =
-    record {
-      item =
-          item_cut c.args.self.now.line.now c.args.self.now.place.at c.digit_run-n.result c.if-start-line.false
-          c.if-first-ne32.false c.digit_run-n.ensures.value;
-      place = refl;
-      line = refl;
-      number = refl;
-    }
+pub returns-clause-item : goal.returns-clause-item
+returns-clause-item c =
+    let within : c.args.self.now.place.at < length c.args.self.now.line.now = search rules in
+    let same : c.in-Some.first.now ≡ get_or c.args.self.now.line.now c.args.self.now.place.at 0 = search rules in
+    item_cut c.args.self.now.line.now c.args.self.now.place.at c.digit_run-n.result within
+    (sym same ∙ c.if-first-ne32.false) c.digit_run-n.ensures.value

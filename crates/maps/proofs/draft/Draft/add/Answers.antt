@@ -1,25 +1,20 @@
-use Rattle.std.proofs.Common.{◌≡◌, ◌<◌, length, Ok, sym, ap, ◌∙◌, subst, arith}
+use Rattle.std.proofs.Common.{◌≡◌, ◌<◌, length, sym, subst, arith}
 use Rattle.maps.specs.Touch.{Mutual, Inside}
-use Rattle.maps.proofs.Tables.{mutual_with_pair, inside_with_pair, entered_twice, offered_good, pair_good}
+use Rattle.maps.proofs.Tables.{mutual_with_pair, inside_with_pair, pair_good}
 use Rattle.maps.proofs.draft.Draft.add.Goals as goal
 
 pub invariant_of-self : goal.invariant_of-self
 invariant_of-self c =
-    let good = pair_good c.args.self.now.n c.args.a c.args.b (sym c.in_default.ensures) in
-    let long : length c.args.self.now.rows ≡ 64 = omega arith in
-    let both = entered_twice c.args.self.now.rows _ _ c.args.a c.args.b c.enter.ensures c.enter-2.ensures in
+    let map = c.args.self.now.map in
+    let good = pair_good map.n c.args.a c.args.b (sym c.in_default.ensures) in
+    let long : length map.rows ≡ 64 = omega arith in
     let ha : c.args.a < 64 = omega arith in
     let hb : c.args.b < 64 = omega arith in
     record {
-      some = c.args.self.now.some;
-      few = c.args.self.now.few;
-      «mutual» = subst (λ t. Mutual t) (sym both) (mutual_with_pair c.args.self.now.rows c.args.a c.args.b long ha hb c.args.self.now.«mutual»);
+      some = map.some;
+      few = map.few;
+      «mutual» = subst (λ t. Mutual t) (sym c.enter.ensures) (mutual_with_pair map.rows c.args.a c.args.b long ha hb map.«mutual»);
       inside =
-          subst (λ t. Inside c.args.self.now.n t) (sym both)
-          (inside_with_pair c.args.self.now.n c.args.self.now.rows c.args.a c.args.b long (omega arith) good.0 good.1 c.args.self.now.inside);
+          subst (λ t. Inside map.n t) (sym c.enter.ensures)
+          (inside_with_pair map.n map.rows c.args.a c.args.b long map.few good.0 good.1 map.inside);
     }
-
-pub returns : goal.returns
-returns c =
-    ap (λ t. (Ok tt, record { count_of = c.args.self.now.n; rows = t })) (entered_twice c.args.self.now.rows _ _ c.args.a c.args.b c.enter.ensures c.enter-2.ensures)
-    ∙ sym (offered_good (record { count_of = c.args.self.now.n; rows = c.args.self.now.rows }) c.args.a c.args.b (sym c.in_default.ensures))

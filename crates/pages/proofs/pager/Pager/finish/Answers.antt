@@ -1,30 +1,24 @@
 use Rattle.std.proofs.Common.{◌≤◌, vec_items, refl, ap, arith}
 use Rattle.oracle.specs.Outcomes.{ceiling}
-use Rattle.engine.specs.View.{shown}
 use Rattle.pages.proofs.Passing.{finishes}
-use Rattle.pages.proofs.Places.{place_from_one}
 use Rattle.pages.proofs.pager.Pager.finish.Goals as goal
 
 pub returns : goal.returns
 returns g c =
     let W = g.O.Walking in
     let self = c.args.self.now in
-    let census = self.census in
-    let o = census.oracle in
-    let s = W.setup o in
-    let v = shown W.setup W.current census in
-    let from = place_from_one s (W.lawful o c.requires.sound) census.rest (W.current o) (W.stands o c.requires.sound) in
+    let s = W.setup self.census.oracle in
+    let v = self.census.view in
     let same = c.tally-tally.ensures in
     let fits = c.tally-tally.type_inv in
-    let small : census.tally.steps ≤ ceiling = omega (arith, ap (λ t. t.steps) same) in
+    let small : v.tally.steps ≤ ceiling = omega (arith, ap (λ t. t.steps) same) in
     record {
-      sound = c.requires.sound;
-      setup = refl;
+      same = refl;
       lined =
-          finishes s v self.most self.printed (vec_items c.args.out.now) (vec_items c.last_line.new.out) c.rank.result c.is_none-whole.result self.done c.tally-tally.result from small
+          finishes s v self.most self.printed (vec_items c.args.out.now) (vec_items c.last_line.new.out) c.rank.result c.is_none-whole.result self.done c.tally-tally.result c.rank.ensures.placed.from small
           c.requires.undone
           c.requires.due
-          c.rank.ensures
+          c.rank.ensures.rank
           c.is_none-whole.ensures
           c.tally-tally.ensures
           c.in_ok-last_line.ensures.items;

@@ -1,5 +1,4 @@
 use Rattle.std.proofs.Common.{◌≡◌, ℕ, ◌++◌, vec_items, vec_capacity, refl, ap, ◌∙◌, arith}
-use Rattle.engine.specs.View.{shown}
 use Rattle.pages.proofs.Passing.{is_due, passes}
 use Rattle.pages.proofs.pager.Pager.pass_object.Goals as goal
 use Rattle.pages.proofs.pager.Pager.pass_object.Goals.{then-is_printed+in_ok-write_object, else-is_printed}
@@ -10,7 +9,7 @@ one_more-self-requires g c =
     let W = g.O.Walking in
     let self = c.args.self.now in
     let o = self.census.oracle in
-    let due = is_due (W.setup o) (W.lawful o c.requires.sound) self.census.rest (W.current o) (W.stands o c.requires.sound) self.census.tally self.most self.printed c.args.rank c.requires.due in
+    let due = is_due (W.setup o) self.census.view self.most self.printed c.args.rank c.requires.due in
     due.fewer
 
 pub returns : goal.returns
@@ -19,22 +18,21 @@ returns g c =
     let self = c.args.self.now in
     let o = self.census.oracle in
     let s = W.setup o in
-    let due = is_due s (W.lawful o c.requires.sound) self.census.rest (W.current o) (W.stands o c.requires.sound) self.census.tally self.most self.printed c.args.rank c.requires.due in
+    let due = is_due s self.census.view self.most self.printed c.args.rank c.requires.due in
     elim c.if-is_printed.branch [
       | then-is_printed+in_ok-write_object w ↦
           let mid = c.if-is_printed.self in
           let at_mid = w.self-is in
           let same = ap (λ q. W.setup q.census.oracle) at_mid in
           record {
-            sound = c.next.ensures.sound;
-            setup = c.next.ensures.setup ∙ same;
+            same = c.next.ensures.setup ∙ same;
             lined =
-                passes s (shown W.setup W.current self.census) self.most self.printed (vec_items c.args.out.now) (vec_items c.if-is_printed.out) (W.current o) (W.setup mid.census.oracle) (W.setup c.next.new.self.oracle) (shown W.setup W.current mid.census) (shown W.setup W.current c.next.new.self) c.next.result mid.most mid.printed self.done mid.done
+                passes s self.census.view self.most self.printed (vec_items c.args.out.now) (vec_items c.if-is_printed.out) due.object (W.setup mid.census.oracle) (W.setup c.next.new.self.oracle) mid.census.view c.next.new.self.view c.next.result mid.most mid.printed self.done mid.done
                 due.stands
                 due.fewer
                 c.requires.undone
                 same
-                (ap (λ q. shown W.setup W.current q.census) at_mid)
+                (ap (λ q. q.census.view) at_mid)
                 (ap (λ q. q.most) at_mid)
                 (ap (λ q. q.printed) at_mid ∙ w.one_more-self.ensures)
                 (ap (λ q. q.done) at_mid)

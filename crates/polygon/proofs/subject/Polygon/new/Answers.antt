@@ -10,11 +10,11 @@ use Rattle.polygon.proofs.subject.Polygon.new.Goals as goal
 pub invariant_of-result : goal.invariant_of-result
 invariant_of-result c =
     let n = c.args.n in
-    let s = settled n (fan n) c.fan_rows-rows.result (fan_small n) (fan_triangulation n (omega arith) (omega arith)) c.fan_rows-rows.ensures in
-    record { large = omega arith; few = omega arith; whole = s.whole; tied = s.tied }
+    let s = settled n (fan n) c.fan_rows-rows.result.0 (fan_small n) (fan_triangulation n (omega arith) (omega arith)) c.fan_rows-rows.ensures in
+    record { whole = s.whole; tied = s.tied }
 
 pub returns : goal.returns
 returns c =
     let n = c.args.n in
-    let s = settled n (fan n) c.fan_rows-rows.result (fan_small n) (fan_triangulation n (omega arith) (omega arith)) c.fan_rows-rows.ensures in
+    let s = settled n (fan n) c.fan_rows-rows.result.0 (fan_small n) (fan_triangulation n (omega arith) (omega arith)) c.fan_rows-rows.ensures in
     record { made = begun_good n _ (omega arith) (omega arith) (ap code_of s.same); stands = stands n }

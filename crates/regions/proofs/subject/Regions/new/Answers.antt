@@ -1,11 +1,8 @@
-use Rattle.std.proofs.Common.{refl}
 use Rattle.connected.proofs.Laws.{empty_set, code_decides}
 use Rattle.regions.proofs.subject.Regions.new.Goals as goal
 
 pub invariant_of-result : goal.invariant_of-result
 invariant_of-result c = let empty = empty_set c.args.map.now.n c.args.map.now.rows in record { stands = empty; stood = empty }
 
-pub returns : goal.returns
-returns c =
-    let m = c.args.map.now in
-    record { setup = refl; root = refl; objects = code_decides m.n m.rows m.few m.mutual }
+pub returns-clause-objects : goal.returns-clause-objects
+returns-clause-objects c = let m = c.args.map.now in code_decides m.n m.rows m.few m.mutual

@@ -1,16 +1,14 @@
-use Rattle.std.proofs.Common.{refl, arith}
+use Rattle.std.proofs.Common.{arith}
 use Rattle.regions.proofs.Coded.{stepped_vacant, stepped_filled, set_fits}
 use Rattle.regions.proofs.walking.RegionsWalking.step.Goals as goal
 
-pub returns-then-not-leads_on : goal.returns-then-not-leads_on
-returns-then-not-leads_on c =
+pub returns-then-not-leads_on-clause-moved : goal.returns-then-not-leads_on-clause-moved
+returns-then-not-leads_on-clause-moved c =
     let r = c.args.self.now in
-    let out = c.if-not-leads_on.ensures in
-    record { sound = tt; setup = refl; moved = stepped_vacant r.map.n r.map.rows r.set (set_fits r) c.args.slot (omega arith) out }
+    stepped_vacant r.map.n r.map.rows r.set (set_fits r) c.args.slot (omega arith) c.if-not-leads_on.ensures
 
-pub returns : goal.returns
-returns c =
+pub returns-clause-moved : goal.returns-clause-moved
+returns-clause-moved c =
     let r = c.args.self.now in
-    let there = c.if-not-leads_on.ensures in
-    let moved = stepped_filled r.map.n r.map.rows r.set (set_fits r) c.args.slot (omega arith) there in
-    record { sound = tt; setup = refl; moved = rw c.turned-set.ensures moved }
+    rw c.turned-set.ensures
+    (stepped_filled r.map.n r.map.rows r.set (set_fits r) c.args.slot (omega arith) c.if-not-leads_on.ensures)

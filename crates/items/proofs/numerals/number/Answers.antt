@@ -1,0 +1,10 @@
+use Rattle.std.proofs.Common.{◌≡◌, ◌^◌, ◌<◌, ◌≤◌, min, IfSome, sym, subst, rules, arith}
+use Rattle.items.specs.Numerals.{number_of}
+use Rattle.items.proofs.Decimal.{number_within}
+use Rattle.items.proofs.numerals.number.Goals as goal
+
+pub returns-clause-within : goal.returns-clause-within
+returns-clause-within g c =
+    let few : min g.row.MOST 19 ≤ 19 = omega arith in
+    let is : c.read_digits.result ≡ number_of (min g.row.MOST 19) c.args.bytes.now = search rules in
+    subst (λ o. IfSome o (λ n. n < 10 ^ min g.row.MOST 19)) (sym is) (number_within (min g.row.MOST 19) few c.args.bytes.now)
