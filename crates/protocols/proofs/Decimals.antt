@@ -6,11 +6,8 @@ use Rattle.std.specs.Str.{all_ascii_digits}
 use Rattle.std.proofs.lemmas.Bool.{and_parts, leb-true, le-leb}
 use Rattle.items.specs.Numerals.{number_of}
 use Rattle.items.proofs.Decimal as decimals
-use Rattle.items.proofs.Decimal.{digits_in}
+use Rattle.items.proofs.Decimal.{clash, digits_in}
 use Rattle.protocols.specs.Values.{at_most, number_at}
-
-pub clash : {X : Type 0} (x : X) {Y : Type 0} → None ≡ Some x → Y
-clash x e = decimals.clash x e
 
 by_size : ℕ → ℕ → Bool → Option ℕ
 by_size m n t = elim t [ true ↦ Some n | false ↦ None ]

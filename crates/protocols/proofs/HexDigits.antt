@@ -9,7 +9,7 @@ use Rattle.std.proofs.lemmas.Bool.Decides.{nat_tests}
 use Rattle.lines.specs.Texts.{hex_digit, hexed}
 use Rattle.protocols.specs.Requests.{block_text}
 use Rattle.protocols.specs.Values.{is_hex, hex_value, all_hex, bytes_of, in_pairs, bytes_at}
-use Rattle.protocols.proofs.Decimals.{clash}
+use Rattle.items.proofs.Decimal.{clash}
 
 -- one digit: its value, and back
 value_lt : (c : ℕ) → hex_value c < 16

@@ -4,7 +4,7 @@ use Rattle.std.specs.List.{prefix_len, AllByRecursion}
 use Rattle.std.proofs.lemmas.List.{take_rest}
 use Rattle.std.proofs.lemmas.Bool.{ne_eqb, eqb-true, eqb-false, eq-eqb, ltb-true, ltb-false, cond-true, cond-false}
 use Rattle.protocols.specs.Reading.{behind, parted, place_of}
-use Rattle.protocols.proofs.Decimals.{clash}
+use Rattle.items.proofs.Decimal.{clash}
 
 abbrev Parts : Type 0
 Parts = Option (List ℕ × List ℕ)

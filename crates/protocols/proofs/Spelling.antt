@@ -12,7 +12,8 @@ use Rattle.protocols.specs.Laws.{Spells}
 use Rattle.protocols.specs.Reading.{parted, alone, reading, saving, resuming, asking, request_at}
 use Rattle.protocols.specs.Requests.{Request, next, restart, tally, read, save, resume, most_size, most_job, Good, block_text, text_of}
 use Rattle.protocols.specs.Values.{number_at, bytes_at}
-use Rattle.protocols.proofs.Decimals.{clash, number_is, is_number, decimal_without}
+use Rattle.items.proofs.Decimal.{clash}
+use Rattle.protocols.proofs.Decimals.{number_is, is_number, decimal_without}
 use Rattle.protocols.proofs.HexDigits.{bytes_are, are_bytes, hexed_above}
 use Rattle.protocols.proofs.Parting.{parted_is, is_parted}
 

@@ -7,7 +7,7 @@ use Rattle.sheets.specs.Cut.{Cut, cut}
 use Rattle.sheets.proofs.Cuts.{cut_line, cut_rest}
 use Rattle.protocols.specs.Reading.{parted, request_at, in_front, requests_from, requests_in, ordered}
 use Rattle.protocols.specs.Requests.{Request, order_for}
-use Rattle.protocols.proofs.Decimals.{clash}
+use Rattle.items.proofs.Decimal.{clash}
 use Rattle.protocols.proofs.Parting.{parted_is, parted_front, parted_none}
 use Rattle.protocols.proofs.Whole.{from_none, from_some}
 
