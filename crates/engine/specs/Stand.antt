@@ -8,7 +8,8 @@ use Rattle.engine.specs.declared.rest.Rest.{Rest}
 use Rattle.engine.specs.declared.rest.Rest.TheVariants.{Standing, Past}
 
 -- The object that is current, and a place of the list; the place past the end is one more than the
--- number of objects.
+-- number of objects. The object stands beside the place, since past the end, where no place names one,
+-- the oracle's is held to be the root.
 pub record Stand : Type 0 where
   pub current : Code
   pub place : ℕ

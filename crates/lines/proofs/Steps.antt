@@ -21,6 +21,9 @@ length_hexed [] = refl
 length_hexed (b ∷ bs) = let rest = length_hexed bs in omega arith
 
 -- how many digits a number has
+pub length_byte : (n : ℕ) → n < 2 ^ 8 → length (decimal n) ≤ 3
+length_byte n h = length-decimal-le 3 n (omega arith) (omega arith) (omega arith)
+
 pub length_word : (n : ℕ) → n < 2 ^ 32 → length (decimal n) ≤ 10
 length_word n h = length-decimal-le 10 n (omega arith) (omega arith) (omega arith)
 

@@ -1,5 +1,7 @@
 -- The lines that a program prints, as bytes.
 use Rattle.std.specs.Prelude.{ℕ, ◌+◌, ◌*◌, ◌/◌, ◌%◌, Bool, cond, List, [], ◌∷◌, ◌++◌, codes, decimal, nat_lt}
+use Rattle.sheets.specs.Told.{fault_words}
+use Rattle.sheets.specs.declared.fault.Fault.{Fault}
 
 -- The small hexadecimal digit of a number below 16.
 abbrev pub hex_digit : ℕ → ℕ
@@ -27,6 +29,15 @@ last_text whole printed steps =
 -- The room that is enough for it: words of six and seven bytes, ten digits and twenty, and the end.
 abbrev pub last_room : ℕ
 last_room = 44
+
+-- A fault of a sheet: its words.
+abbrev pub fault_text : Fault → List ℕ
+fault_text f = fault_words f ++ (10 ∷ [])
+
+-- The room that is enough for it: words of six, six and seven bytes, a number and a layer of three digits at
+-- most, ten digits of the line, and the end.
+abbrev pub fault_room : ℕ
+fault_room = 36
 
 -- Bytes as a line.
 abbrev pub hex_text : List ℕ → List ℕ

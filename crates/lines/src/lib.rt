@@ -4,10 +4,11 @@
 
 ghost use Rattle.std.specs.Prelude.{◌≡◌, ◌≤◌, length, if◌then◌else◌, codes};
 ghost use Rattle.lines.specs.Appended.{Line};
-ghost use Rattle.lines.specs.Texts.{hex_room, hex_text, last_room, last_text, object_room, object_text};
+ghost use Rattle.lines.specs.Texts.{fault_room, fault_text, hex_room, hex_text, last_room, last_text, object_room, object_text};
 
 use crate::hex::{put_hex, reserve_hex};
 use crate::parts::{put, put_number};
+use sheets::Fault;
 use std::alloc::AllocError;
 
 mod hex;
@@ -48,6 +49,22 @@ fn opening(whole: bool) -> &'static str
     ensures short { length result.now ≤ 6 }
 {
     if whole { "whole " } else { "open " }
+}
+
+// The line for a fault of a sheet, with its number, line and layer.
+pub fn fault_line(out: &mut Vec<u8>, fault: &Fault) -> Result<(), AllocError>
+    ensures { Line out.old result out.new (fault_text fault.now) fault_room }
+{
+    // words of six, six and seven bytes, three digits, ten and three at most, and the end of the line
+    out.reserve(36)?;
+    put(out, b"fault ");
+    put_number(out, u64::from(fault.number()));
+    put(out, b" line ");
+    put_number(out, u64::from(fault.line));
+    put(out, b" layer ");
+    put_number(out, u64::from(fault.layer()));
+    out.push_reserved(b'\n');
+    Ok(())
 }
 
 // Bytes in small hexadecimal, as a line.

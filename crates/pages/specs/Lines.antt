@@ -71,9 +71,12 @@ all_lines s most =
     map (object_line s) (take most (listing s))
     ++ (last_text (nat_le (objects s) most) (min (objects s) most) (steps_of s most) ∷ [])
 
--- The room in which a whole listing is sure to be made.
+-- The room in which the lines left are sure to be made, and that for a whole listing.
+abbrev pub rest_room : Setup → List (List ℕ) → ℕ
+rest_room s left = length (concat left) + line_room s
+
 abbrev pub list_room : Setup → ℕ → ℕ
-list_room s most = length (concat (all_lines s most)) + line_room s
+list_room s most = rest_room s (all_lines s most)
 
 -- The steps of a whole list.
 abbrev pub WholeSteps : Setup → ℕ → Type 0

@@ -1,6 +1,6 @@
 //! Sheets and protocols with what the rules print of them.
 use lines::{hex_line, last_line};
-use printouts::{list_sheet, replay_sheet};
+use printouts::{SheetPager, list_sheet, replay_sheet};
 use protocols::{ProtocolError, read_protocol};
 use std::process::Abort;
 use std::test::Fail;
@@ -9,7 +9,7 @@ use std::test::Fail;
 fn listed(rt: &(impl Abort + AllocGlobal), sheet: &[u8], text: &[u8]) -> Result<(), Fail> {
     for limit in [0usize, 1, 2, 3, 100] {
         let mut out = Vec::new(rt.alloc());
-        list_sheet(rt.alloc(), sheet, limit, &mut out)?;
+        list_sheet(sheet, limit, &mut out)?;
         assert!(rt; out.as_slice() == text);
     }
     Ok(())
@@ -40,7 +40,7 @@ fn unreadable(rt: &HostRuntime, text: &[u8]) -> Result<Option<u64>, Fail> {
 // Sheets and their listings.
 #[test]
 fn listings(rt: HostRuntime) -> Result<(), Fail> {
-    let cases: [(&str, &str); 10] = [
+    let cases: [(&str, &str); 12] = [
         (
             "R 1\n. 100\n",
             "0 0000000000000000\n1 0100000000000000\nwhole 2 steps 4\n",
@@ -63,6 +63,14 @@ fn listings(rt: HostRuntime) -> Result<(), Fail> {
             "P 4\n. 5\n",
             "0 0200000000000000000000000000000000000000000000000000000000000000000000\n1 1000000000000000000000000000000000000000000000000000000000000000000000\nwhole 2 steps 14\n",
         ),
+        (
+            "P 5\n. 100\n",
+            "0 0a00000000000000000000000000000000000000000000000000000000000000000000\n1 1800000000000000000000000000000000000000000000000000000000000000000000\n2 9000000000000000000000000000000000000000000000000000000000000000000000\n1 0201000000000000000000000000000000000000000000000000000000000000000000\n2 8001000000000000000000000000000000000000000000000000000000000000000000\nwhole 5 steps 60\n",
+        ),
+        (
+            "P 5\nC 0\n. 100\n",
+            "0 0a00000000000000000000000000000000000000000000000000000000000000000000\nwhole 1 steps 10\n",
+        ),
         ("", "fault 14 line 1 layer 2\n"),
         ("R 65\n. 1\n", "fault 12 line 1 layer 3\n"),
         ("R 07\n. 1\n", "fault 10 line 1 layer 1\n"),
@@ -70,6 +78,35 @@ fn listings(rt: HostRuntime) -> Result<(), Fail> {
     for (sheet, text) in cases {
         listed(&rt, sheet.as_bytes(), text.as_bytes())?;
     }
+    Ok(())
+}
+
+// The lines of a sheet as they are appended, and whether the last is written, with pages of a line, of none
+// and of two.
+#[test]
+fn paged(rt: HostRuntime) -> Result<(), Fail> {
+    let mut pager = SheetPager::of_sheet(b"R 1\n. 100\n");
+    let mut out = Vec::new(rt.alloc());
+    assert!(rt; !pager.page(&mut out, 1)?);
+    assert!(rt; !pager.page(&mut out, 0)?);
+    assert!(rt; out.as_slice() == b"0 0000000000000000\n".as_slice());
+    assert!(rt; pager.page(&mut out, 2)?);
+    assert!(rt; pager.page(&mut out, 2)?);
+    assert!(rt;
+        out.as_slice() == b"0 0000000000000000\n1 0100000000000000\nwhole 2 steps 4\n".as_slice()
+    );
+    Ok(())
+}
+
+// The line of a fault is written once.
+#[test]
+fn paged_fault(rt: HostRuntime) -> Result<(), Fail> {
+    let mut pager = SheetPager::of_sheet(b"P 25\n. 1\n");
+    let mut out = Vec::new(rt.alloc());
+    assert!(rt; !pager.page(&mut out, 0)?);
+    assert!(rt; pager.page(&mut out, 1)?);
+    assert!(rt; pager.page(&mut out, 1)?);
+    assert!(rt; out.as_slice() == b"fault 12 line 1 layer 3\n".as_slice());
     Ok(())
 }
 

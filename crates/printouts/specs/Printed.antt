@@ -1,13 +1,13 @@
 -- What the programs print, from the bytes that they are given.
-use Rattle.std.specs.Prelude.{ℕ, List, [], ◌∷◌, ◌++◌, Ok, Err, codes, decimal, Result}
+use Rattle.std.specs.Prelude.{ℕ, ◌+◌, ◌*◌, List, [], ◌∷◌, ◌++◌, length, take, Ok, Err, codes, decimal, Result}
 use Rattle.std.specs.List as joins
 use Rattle.std.specs.List.{concat}
 use Rattle.engine.specs.Runs.{Order, Entry, plain_run}
 use Rattle.engine.specs.View.{begun}
+use Rattle.lines.specs.Texts.{fault_text}
 use Rattle.oracle.specs.Setup.{Setup}
-use Rattle.pages.specs.Lines.{all_lines}
+use Rattle.pages.specs.Lines.{all_lines, WholeSteps}
 use Rattle.protocols.specs.Reading.{ordered, requests_in}
-use Rattle.reports.specs.Lines.{fault_text}
 use Rattle.sheets.specs.Reading.{Wanted, read_all}
 use Rattle.sheets.specs.declared.fault.Fault.{Fault}
 use Rattle.printouts.specs.Answers.{entry_text}
@@ -40,9 +40,30 @@ replay_with acts (Err f) = fault_text f
 abbrev pub replay_text : List ℕ → List ℕ → List ℕ
 replay_text sheet acts = replay_with acts (read_all sheet)
 
-abbrev pub census_of : Result Wanted Fault → List ℕ
-census_of (Ok w) = concat (all_lines (plan_setup w) w.most)
-census_of (Err f) = fault_text f
+-- A sheet that is accepted prints the listing of its subject under its cap.
+abbrev pub plan_lines : Wanted → List (List ℕ)
+plan_lines w = all_lines (plan_setup w) w.most
 
-abbrev pub census_text : List ℕ → List ℕ
-census_text sheet = census_of (read_all sheet)
+abbrev pub lines_of : Result Wanted Fault → List (List ℕ)
+lines_of (Ok w) = plan_lines w
+lines_of (Err f) = fault_text f ∷ []
+
+-- The lines that the program `census` prints, from the bytes of a sheet.
+abbrev pub sheet_lines : List ℕ → List (List ℕ)
+sheet_lines sheet = lines_of (read_all sheet)
+
+-- Where the list is printed whole, its last line has the steps of the whole list.
+abbrev pub WholeOf : Result Wanted Fault → Type 0
+WholeOf (Ok w) = WholeSteps (plan_setup w) w.most
+WholeOf (Err f) = Unit {0}
+
+-- The room that any line of a sheet asks for: a code of 35 bytes at most, as a line of a listing.
+abbrev pub room_of_a_line : ℕ
+room_of_a_line = 2 * 35 + 44
+
+-- The room in which a page is sure to be made, and all of it.
+abbrev pub sheet_room : ℕ → List (List ℕ) → ℕ
+sheet_room limit left = length (concat (take limit left)) + room_of_a_line
+
+abbrev pub census_room : List ℕ → ℕ
+census_room sheet = length (concat (sheet_lines sheet)) + room_of_a_line

@@ -5,7 +5,9 @@ mod answers;
 mod listing;
 mod plans;
 mod replaying;
+mod sheet_pager;
 
 pub use answers::answer_line;
 pub use listing::list_sheet;
 pub use replaying::{replay_protocol, replay_sheet};
+pub use sheet_pager::SheetPager;

@@ -10,10 +10,10 @@ use crate::plans::drawn;
 use cap::Cap;
 use engine::call::Call;
 use engine::run::run;
+use lines::fault_line;
 use oracle::coded::Coded;
 use protocols::{ProtocolError, read_protocol};
 use regions::Regions;
-use reports::fault_line;
 use sheets::{Plan, Subject, read_sheet};
 use std::alloc::{AllocError, Global};
 
@@ -58,7 +58,7 @@ fn replay_plan(heap: Global, plan: Plan, acts: &[u8]) -> Result<Vec<u8>, AllocEr
     ensures { IfOk result (λ v. v.items ≡ protocol_text (plan_setup (plan_of plan)) acts.now) }
 {
     let cap = plan.cap;
-    // listed plans part in the same way: one place for both needs a trait with a generic method, and a
+    // a pager parts in the same way: one place for both needs a trait with a generic method, and a
     // struct with an impl for each use, which is more than these two lines
     match plan.subject {
         Subject::Regions(map) => replay_protocol(heap, Cap::new(Regions::new(&map), cap), acts),
@@ -73,8 +73,9 @@ pub fn replay_sheet(heap: Global, sheet: &[u8], acts: &[u8]) -> Result<Vec<u8>, 
     match read_sheet(sheet) {
         Ok(plan) => replay_plan(heap, plan, acts),
         Err(fault) => {
-            let line = fault_line(heap, &fault)?;
-            Ok(line.into_bytes())
+            let mut out = Vec::new(heap);
+            fault_line(&mut out, &fault)?;
+            Ok(out)
         }
     }
 }

@@ -1,11 +1,9 @@
 -- The one line that says what a sheet asks for, or its fault.
 use Rattle.std.specs.Prelude.{ℕ, List, [], ◌∷◌, ◌++◌, Ok, Err, Result}
+use Rattle.lines.specs.Texts.{fault_text}
 use Rattle.sheets.specs.Reading.{Wanted, read_all}
-use Rattle.sheets.specs.Told.{fault_words, plan_words}
+use Rattle.sheets.specs.Told.{plan_words}
 use Rattle.sheets.specs.declared.fault.Fault.{Fault}
-
-abbrev pub fault_text : Fault → List ℕ
-fault_text f = fault_words f ++ (10 ∷ [])
 
 abbrev pub plan_text : Wanted → List ℕ
 plan_text w = plan_words w ++ (10 ∷ [])

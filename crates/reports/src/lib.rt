@@ -3,17 +3,10 @@
 
 ghost use Rattle.std.specs.Prelude.{◌≡◌, IfOk, string_bytes};
 ghost use Rattle.sheets.specs.Views.{plan_of};
-ghost use Rattle.reports.specs.Lines.{fault_text, plan_text, verdict_on};
+ghost use Rattle.reports.specs.Lines.{plan_text, verdict_on};
 
-use sheets::{Fault, Plan, read_sheet};
+use sheets::{Plan, read_sheet};
 use std::alloc::{AllocError, Global};
-
-// The line for a fault, with its number, line and layer.
-pub fn fault_line(heap: Global, fault: &Fault) -> Result<String, AllocError>
-    ensures { IfOk result (λ s. string_bytes s ≡ fault_text fault.now) }
-{
-    format!(in heap; "{fault}\n")
-}
 
 // The line for a sheet that is accepted.
 pub fn plan_line(heap: Global, plan: &Plan) -> Result<String, AllocError>
@@ -28,6 +21,6 @@ pub fn verdict(heap: Global, bytes: &[u8]) -> Result<String, AllocError>
 {
     match read_sheet(bytes) {
         Ok(plan) => plan_line(heap, &plan),
-        Err(fault) => fault_line(heap, &fault),
+        Err(fault) => format!(in heap; "{fault}\n"),
     }
 }

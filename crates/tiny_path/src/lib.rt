@@ -38,11 +38,9 @@ impl TinyPath {
 }
 
 // The list of the path is its objects in order, each once, and the walks make 20 steps.
-pub fn list_stands() -> u8
+pub fn list_stands()
     ensures { Listed }
-{
-    0
-}
+{}
 
 impl Walking for TinyPath {
     ghost setup = { λ _. path };

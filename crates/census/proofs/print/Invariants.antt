@@ -1,6 +1,6 @@
 use Rattle.std.proofs.Common.{length}
 use Rattle.census.proofs.print.Given as goal
-use Rattle.pages.specs.Left.{left}
+use Rattle.printouts.specs.Left.{sheet_left}
 
 abbrev pub decreases-pages : goal.decreases-pages
-decreases-pages g l = length (left g.O.Walking.setup l.pager)
+decreases-pages l = length (sheet_left l.pager)

@@ -19,6 +19,7 @@ impl<O: Walking> Census<O> {
         requires { O.Walking.sound oracle }
         ensures setup { O.Walking.setup result.oracle ≡ O.Walking.setup oracle }
         ensures begun { result.view ≡ begun (O.Walking.setup oracle) }
+        ensures root { result.view.stand.current ≡ (O.Walking.setup oracle).root }
     {
         let mut census = Census {
             tour: Tour {
@@ -36,6 +37,7 @@ impl<O: Walking> Census<O> {
     pub fn restart(&mut self)
         ensures setup { O.Walking.setup self.new.oracle ≡ O.Walking.setup self.old.oracle }
         ensures begun { self.new.view ≡ begun (O.Walking.setup self.old.oracle) }
+        ensures root { self.new.view.stand.current ≡ (O.Walking.setup self.old.oracle).root }
     {
         self.tour.begin();
     }

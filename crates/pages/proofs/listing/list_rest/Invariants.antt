@@ -1,6 +1,6 @@
 use Rattle.std.proofs.Common.{length}
 use Rattle.pages.proofs.Onward.{Listing}
-use Rattle.pages.proofs.listing.list_all.Given as goal
+use Rattle.pages.proofs.listing.list_rest.Given as goal
 use Rattle.pages.specs.Left.{left}
 
 abbrev pub invariant-pages : goal.invariant-pages
