@@ -1,5 +1,4 @@
-use Rattle.std.proofs.Common.{◌≡◌, ℕ, ◌+◌, ◌≤◌, ◌++◌, length, take, vec_items, vec_len, vec_capacity, sym, ap, ◌∙◌, subst, arith}
-use Rattle.std.specs.List.{concat}
+use Rattle.std.proofs.Common.{◌≡◌, ℕ, ◌+◌, ◌≤◌, vec_items, vec_len, vec_capacity, sym, ap, ◌∙◌, subst, arith}
 use Rattle.pages.proofs.Onward.{pages_on, pages_end, room_onward, stopped_short}
 use Rattle.pages.proofs.listing.list_rest.Goals as goal
 use Rattle.pages.specs.Left.{left}

@@ -1,4 +1,4 @@
-use Rattle.std.proofs.Common.{refl, subst, sym}
+use Rattle.std.proofs.Common.{refl, subst}
 use Rattle.pages.proofs.Turned.{pages_join}
 use Rattle.printouts.proofs.Accepted.{asked_drawable}
 use Rattle.printouts.proofs.sheet_pager.SheetPager.of_sheet.Goals as goal
