@@ -30,8 +30,6 @@ pub fn write_code(set: u64, buffer: &mut [u8]) -> Result<(), Refusal>
 }
 
 // Every family of masks that keeps the laws gives a lawful set-up on codes.
-pub fn masks_stand() -> u8
+pub fn masks_stand()
     ensures { (f : Family) → FamilyLaws f → Lawful (coded f) }
-{
-    0
-}
+{}
