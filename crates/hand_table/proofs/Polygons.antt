@@ -21,12 +21,12 @@ computed = 0
 
 pub three_stands : Holds p_three
 unfolding computed
-three_stands = record { list_is = refl; N-is = refl; D-is = refl; F-is = refl; steps_are = refl }
+three_stands = record { list_is = refl; ranks_are = refl; H-is = refl; N-is = refl; D-is = refl; F-is = refl; steps_are = refl }
 
 pub four_stands : Holds p_four
 unfolding computed
-four_stands = record { list_is = refl; N-is = refl; D-is = refl; F-is = refl; steps_are = refl }
+four_stands = record { list_is = refl; ranks_are = refl; H-is = refl; N-is = refl; D-is = refl; F-is = refl; steps_are = refl }
 
 pub five_stands : Holds p_five
 unfolding computed
-five_stands = record { list_is = refl; N-is = refl; D-is = refl; F-is = refl; steps_are = refl }
+five_stands = record { list_is = refl; ranks_are = refl; H-is = refl; N-is = refl; D-is = refl; F-is = refl; steps_are = refl }

@@ -23,12 +23,12 @@ computed = 0
 
 pub one_stands : Holds r_one
 unfolding computed
-one_stands = record { list_is = refl; N-is = refl; D-is = refl; F-is = refl; steps_are = refl }
+one_stands = record { list_is = refl; ranks_are = refl; H-is = refl; N-is = refl; D-is = refl; F-is = refl; steps_are = refl }
 
 pub capped_stands : Holds r_three_capped
 unfolding computed
-capped_stands = record { list_is = refl; N-is = refl; D-is = refl; F-is = refl; steps_are = refl }
+capped_stands = record { list_is = refl; ranks_are = refl; H-is = refl; N-is = refl; D-is = refl; F-is = refl; steps_are = refl }
 
 pub three_stands : Holds r_three
 unfolding computed
-three_stands = record { list_is = refl; N-is = refl; D-is = refl; F-is = refl; steps_are = refl }
+three_stands = record { list_is = refl; ranks_are = refl; H-is = refl; N-is = refl; D-is = refl; F-is = refl; steps_are = refl }

@@ -16,18 +16,22 @@ use Rattle.pairs.specs.Pairs.{number}
 use Rattle.triangulations.specs.Census.{polygon}
 use Rattle.marks.specs.Layout.{block}
 
--- A census and what it comes to: the codes in the order of the list; N, the number of objects; D, the
--- number of slots of each; F, the number of filled slots of all objects; the steps of the walks of all places.
+-- A census and what it comes to: the codes in the order of the list, and their ranks; H, which no rank
+-- exceeds; N, the number of objects; D, the number of slots of each; F, the number of filled slots of all
+-- objects; the steps of the walks of all places.
 pub record Row : Type 0 where
   pub setup : Setup
   pub list : List Code
+  pub ranks : List ℕ
+  pub H : ℕ
   pub N : ℕ
   pub D : ℕ
   pub F : ℕ
   pub steps : ℕ
 
-abbrev pub row : Setup → List Code → ℕ → ℕ → ℕ → ℕ → Row
-row s codes n d f steps = record { setup = s; list = codes; N = n; D = d; F = f; steps = steps }
+abbrev pub row : Setup → List Code → List ℕ → ℕ → ℕ → ℕ → ℕ → ℕ → Row
+row s codes ranks h n d f steps =
+    record { setup = s; list = codes; ranks = ranks; H = h; N = n; D = d; F = f; steps = steps }
 
 -- The connected sets of n regions of which these pairs touch, as a sheet gives them.
 abbrev pub regions : ℕ → List (ℕ × ℕ) → Setup
@@ -50,23 +54,23 @@ abbrev pub in_a_row : Setup
 in_a_row = regions 3 ((0, 1) ∷ (1, 2) ∷ [])
 
 abbrev pub r_three : Row
-r_three = row in_a_row (numbered (0 ∷ 1 ∷ 2 ∷ 3 ∷ 4 ∷ 6 ∷ 7 ∷ [])) 7 3 18 39
+r_three = row in_a_row (numbered (0 ∷ 1 ∷ 2 ∷ 3 ∷ 4 ∷ 6 ∷ 7 ∷ [])) (0 ∷ 1 ∷ 1 ∷ 2 ∷ 1 ∷ 2 ∷ 3 ∷ []) 3 7 3 18 39
 
 abbrev pub r_three_capped : Row
-r_three_capped = row (capped 1 in_a_row) (numbered (0 ∷ 1 ∷ 2 ∷ 4 ∷ [])) 4 3 6 18
+r_three_capped = row (capped 1 in_a_row) (numbered (0 ∷ 1 ∷ 2 ∷ 4 ∷ [])) (0 ∷ 1 ∷ 1 ∷ 1 ∷ []) 1 4 3 6 18
 
 abbrev pub r_one : Row
-r_one = row (regions 1 []) (numbered (0 ∷ 1 ∷ [])) 2 1 2 4
+r_one = row (regions 1 []) (numbered (0 ∷ 1 ∷ [])) (0 ∷ 1 ∷ []) 1 2 1 2 4
 
 abbrev pub p_three : Row
-p_three = row (polygon 3) (pair_sets ([] ∷ [])) 1 3 0 3
+p_three = row (polygon 3) (pair_sets ([] ∷ [])) (0 ∷ []) 0 1 3 0 3
 
 abbrev pub p_four : Row
-p_four = row (polygon 4) (pair_sets ((1 ∷ []) ∷ (4 ∷ []) ∷ [])) 2 6 2 14
+p_four = row (polygon 4) (pair_sets ((1 ∷ []) ∷ (4 ∷ []) ∷ [])) (0 ∷ 1 ∷ []) 1 2 6 2 14
 
 abbrev pub p_five : Row
 p_five =
-    row (polygon 5) (pair_sets ((1 ∷ 3 ∷ []) ∷ (3 ∷ 4 ∷ []) ∷ (4 ∷ 7 ∷ []) ∷ (1 ∷ 8 ∷ []) ∷ (7 ∷ 8 ∷ []) ∷ [])) 5 10 10 60
+    row (polygon 5) (pair_sets ((1 ∷ 3 ∷ []) ∷ (3 ∷ 4 ∷ []) ∷ (4 ∷ 7 ∷ []) ∷ (1 ∷ 8 ∷ []) ∷ (7 ∷ 8 ∷ []) ∷ [])) (0 ∷ 1 ∷ 2 ∷ 1 ∷ 2 ∷ []) 2 5 10 10 60
 
 abbrev pub table : List Row
 table = r_three ∷ r_three_capped ∷ r_one ∷ p_three ∷ p_four ∷ p_five ∷ []
@@ -74,6 +78,8 @@ table = r_three ∷ r_three_capped ∷ r_one ∷ p_three ∷ p_four ∷ p_five �
 -- What the definitions give for the census of a row is what the row says.
 pub record Holds (r : Row) : Type 0 where
   pub list_is : listing r.setup ≡ r.list
+  pub ranks_are : map r.setup.rank r.list ≡ r.ranks
+  pub H-is : r.setup.height ≡ r.H
   pub N-is : objects r.setup ≡ r.N
   pub D-is : r.setup.width ≡ r.D
   pub F-is : filled_slots r.setup ≡ r.F

@@ -22,10 +22,12 @@ const HEIGHT: u32 = OBJECTS as u32 - 1;
 
 const SIZE: usize = 1;
 
-// The path, standing at one of its objects.
+// The path, standing at one of its objects, and how often it was told to step: no contract can hold a walk
+// to that number, so a test does.
 #[derive(Clone, Copy)]
 pub struct TinyPath {
     at: u8,
+    calls: u64,
     ghost within: { at < OBJECTS },
 }
 
@@ -33,7 +35,7 @@ impl TinyPath {
     pub fn new() -> TinyPath
         ensures { code result.at ≡ path.root }
     {
-        TinyPath { at: 0 }
+        TinyPath { at: 0, calls: 0 }
     }
 }
 
@@ -70,6 +72,7 @@ impl Walking for TinyPath {
     }
 
     fn step(&mut self, slot: usize) -> Result<Option<usize>, Refusal> {
+        self.calls = self.calls.saturating_add(1);
         if slot >= WIDTH {
             Err(Refusal::SlotRange)
         } else if slot < EDGES && self.at > 0 {

@@ -21,6 +21,17 @@ fn walks_the_path(rt: HostRuntime) {
     }
 }
 
+// A walk steps as often as it counts, and no more.
+#[test]
+fn counts_its_calls(rt: HostRuntime) {
+    let mut path = TinyPath::new();
+    for _ in 0..3 {
+        let before = path.calls;
+        let Outcome { steps, .. } = walk(&mut path, 0);
+        assert_eq!(rt; path.calls.checked_sub(before), Some(steps));
+    }
+}
+
 // Past the last slot the walk rises at once.
 #[test]
 fn rises_at_once(rt: HostRuntime) {
