@@ -39,6 +39,26 @@ fault_text f = fault_words f ++ (10 ∷ [])
 abbrev pub fault_room : ℕ
 fault_room = 36
 
+-- A number; the two numbers of a tally; the number of a refusal.
+abbrev pub number_text : ℕ → List ℕ
+number_text n = decimal n ++ (10 ∷ [])
+
+abbrev pub counts_text : ℕ → ℕ → List ℕ
+counts_text objects steps = decimal objects ++ (codes " " ++ (decimal steps ++ (10 ∷ [])))
+
+abbrev pub refused_text : ℕ → List ℕ
+refused_text n = codes "refused " ++ (decimal n ++ (10 ∷ []))
+
+-- The room that is enough for them: twenty digits a number, three for a refusal's.
+abbrev pub number_room : ℕ
+number_room = 21
+
+abbrev pub counts_room : ℕ
+counts_room = 42
+
+abbrev pub refused_room : ℕ
+refused_room = 12
+
 -- Bytes as a line.
 abbrev pub hex_text : List ℕ → List ℕ
 hex_text bytes = hexed bytes ++ (10 ∷ [])

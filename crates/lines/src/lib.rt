@@ -4,7 +4,7 @@
 
 ghost use Rattle.std.specs.Prelude.{◌≡◌, ◌≤◌, length, if◌then◌else◌, codes};
 ghost use Rattle.lines.specs.Appended.{Line};
-ghost use Rattle.lines.specs.Texts.{fault_room, fault_text, hex_room, hex_text, last_room, last_text, object_room, object_text};
+ghost use Rattle.lines.specs.Texts.{counts_room, counts_text, fault_room, fault_text, hex_room, hex_text, last_room, last_text, number_room, number_text, object_room, object_text, refused_room, refused_text};
 
 use crate::hex::{put_hex, reserve_hex};
 use crate::parts::{put, put_number};
@@ -63,6 +63,42 @@ pub fn fault_line(out: &mut Vec<u8>, fault: &Fault) -> Result<(), AllocError>
     put_number(out, u64::from(fault.line));
     put(out, b" layer ");
     put_number(out, u64::from(fault.layer()));
+    out.push_reserved(b'\n');
+    Ok(())
+}
+
+// A number as a line.
+pub fn number_line(out: &mut Vec<u8>, number: u64) -> Result<(), AllocError>
+    ensures { Line out.old result out.new (number_text number) number_room }
+{
+    // twenty digits at most, and the end of the line
+    out.reserve(21)?;
+    put_number(out, number);
+    out.push_reserved(b'\n');
+    Ok(())
+}
+
+// The two numbers of a tally, as a line.
+pub fn counts_line(out: &mut Vec<u8>, objects: u64, steps: u64) -> Result<(), AllocError>
+    ensures { Line out.old result out.new (counts_text objects steps) counts_room }
+{
+    // twenty digits each at most, a space and the end of the line
+    out.reserve(42)?;
+    put_number(out, objects);
+    out.push_reserved(b' ');
+    put_number(out, steps);
+    out.push_reserved(b'\n');
+    Ok(())
+}
+
+// The line of an act that was refused, with the refusal's number.
+pub fn refused_line(out: &mut Vec<u8>, number: u8) -> Result<(), AllocError>
+    ensures { Line out.old result out.new (refused_text number) refused_room }
+{
+    // a word of eight bytes, three digits at most, and the end of the line
+    out.reserve(12)?;
+    put(out, b"refused ");
+    put_number(out, u64::from(number));
     out.push_reserved(b'\n');
     Ok(())
 }

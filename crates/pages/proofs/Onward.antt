@@ -1,5 +1,5 @@
 -- The pages of a whole listing.
-use Rattle.std.proofs.Common.{◌≡◌, ℕ, ◌+◌, ◌≤◌, Bool, true, leb, List, ◌++◌, length, take, drop, is_err, Ok, Err, vec_items, vec_len, vec_capacity, Result, Vec, sym, ap, ◌∙◌, arith, length-append, length-drop, leb-true}
+use Rattle.std.proofs.Common.{◌≡◌, ℕ, ◌+◌, ◌<◌, ◌≤◌, Bool, true, leb, List, ◌++◌, length, take, drop, is_err, Ok, Err, vec_items, vec_len, vec_capacity, Result, Vec, sym, ap, ◌∙◌, arith, length-append, length-drop, leb-true}
 use Rattle.std.proofs.lemmas.List.{take-append-drop}
 use Rattle.std.specs.List.{concat}
 use Rattle.std.specs.declared.alloc.AllocError.{AllocError}
@@ -22,6 +22,13 @@ pub pages_on : (k n : ℕ) (bytes mid out : List ℕ) (lines rest left : List (L
 pages_on k n bytes mid out lines rest left before e =
     e ∙ ap (λ x. turned k x.0 x.1) before ∙ turned_more k n bytes lines
 
+-- a page that stopped with a line left
+pub short_on : (k n : ℕ) (bytes mid : List ℕ) (lines rest : List (List ℕ)) → (mid, rest) ≡ turned n bytes lines → k < length rest → n + k < length lines
+short_on k n bytes mid lines rest before some =
+    let h = ap (λ x. length x.1) before in
+    let d = length-drop n lines in
+    omega arith
+
 -- the page after which no line is left
 pub pages_end : (done : Bool) (k n : ℕ) (bytes mid out : List ℕ) (lines rest left : List (List ℕ)) → (mid, rest) ≡ turned n bytes lines → done ≡ leb (length rest) k → done ≡ true → (out, left) ≡ turned k mid rest → out ≡ bytes ++ concat lines
 pages_end done k n bytes mid out lines rest left before tells ends e =
@@ -30,9 +37,9 @@ pages_end done k n bytes mid out lines rest left before tells ends e =
     let d = length-drop n lines in
     turned_whole (n + k) bytes out left lines (omega arith) (pages_on k n bytes mid out lines rest left before e)
 
-pub stopped_short : (r : Result (Unit {0}) AllocError) (k : ℕ) (bytes out : List ℕ) (lines : List (List ℕ)) → is_err r ≡ true → out ≡ bytes ++ concat (take k lines) → Listed bytes lines r out
-stopped_short (Ok u) k bytes out lines e h = let z : ◌≡◌ {A = ℕ} 0 1 = cc in absurd (omega arith)
-stopped_short (Err x) k bytes out lines e h = (k, h)
+pub stopped_short : (r : Result (Unit {0}) AllocError) (k : ℕ) (bytes out : List ℕ) (lines : List (List ℕ)) → is_err r ≡ true → k < length lines → out ≡ bytes ++ concat (take k lines) → Listed bytes lines r out
+stopped_short (Ok u) k bytes out lines e some h = let z : ◌≡◌ {A = ℕ} 0 1 = cc in absurd (omega arith)
+stopped_short (Err x) k bytes out lines e some h = (k, some, h)
 
 split_bytes : (n : ℕ) (lines : List (List ℕ)) → length (concat lines) ≡ length (concat (take n lines)) + length (concat (drop n lines))
 split_bytes n lines =

@@ -1,7 +1,8 @@
 -- The turns of a page.
-use Rattle.std.proofs.Common.{◌≡◌, ℕ, zero, suc, ◌+◌, ◌<◌, ◌≤◌, Bool, true, false, leb, ◌⊎◌, List, [], ◌∷◌, ◌++◌, length, take, drop, vec_items, vec_len, vec_capacity, Vec, sym, ap, ◌∙◌, inl, inr, arith, length-append, length-drop}
+use Rattle.std.proofs.Common.{◌≡◌, ℕ, zero, suc, ◌+◌, ◌<◌, ◌≤◌, Bool, true, false, leb, ◌⊎◌, List, [], ◌∷◌, ◌++◌, length, take, drop, is_err, Ok, Err, vec_items, vec_len, vec_capacity, Result, Vec, sym, ap, ◌∙◌, inl, inr, arith, length-append, length-drop}
 use Rattle.std.proofs.lemmas.Bool.Decides.{nat_tests}
 use Rattle.std.specs.List.{concat}
+use Rattle.std.specs.declared.alloc.AllocError.{AllocError}
 use Rattle.std.specs.declared.alloc.Global.{Global}
 use Rattle.oracle.specs.Setup.{Setup}
 use Rattle.oracle.specs.declared.walking.Walking.{Ghosts}
@@ -9,7 +10,7 @@ use Rattle.engine.specs.View.{View}
 use Rattle.pages.proofs.Turned.{turned_all}
 use Rattle.pages.specs.Left.{left}
 use Rattle.pages.specs.Lines.{left_at}
-use Rattle.pages.specs.Turns.{turned}
+use Rattle.pages.specs.Turns.{turned, Filled}
 use Rattle.pages.specs.declared.pager.Pager.{Pager}
 
 -- behind so many lines of a page
@@ -38,6 +39,10 @@ module _ (s : Setup) (v : View) (most printed : ℕ) where
       let lt : n < length lines = omega arith in
       grind (arith, nat_tests)
 
+  -- a listing that is not done has a line left
+  pub still_left : (done : Bool) (n : ℕ) (lines : List (List ℕ)) → done ≡ false → left_at s v most printed done ≡ drop n lines → n < length lines
+  still_left done n lines undone e = let tells = done-is done n lines e in grind (arith, nat_tests)
+
   -- a page that is full, or after which no line is left
   pub page_ends : (done : Bool) (n limit : ℕ) (bytes out : List ℕ) (lines : List (List ℕ)) → n ≤ limit → (limit ≤ n) ⊎ (done ≡ true) → (out, left_at s v most printed done) ≡ turned n bytes lines → (done ≡ leb (length lines) limit) × ((out, left_at s v most printed done) ≡ turned limit bytes lines)
   page_ends done n limit bytes out lines le ends e =
@@ -48,6 +53,11 @@ module _ (s : Setup) (v : View) (most printed : ℕ) where
       go (inl ge) = let same : n ≡ limit = omega arith in ap (λ k. turned k bytes lines) same
       go (inr d) =
           turned_all n limit bytes lines (sym (ap (λ x. x.1) e) ∙ ap (left_at s v most printed) d) le
+
+-- a page that stopped for want of memory
+pub filled_short : (r : Result (Unit {0}) AllocError) (k limit : ℕ) (bytes : List ℕ) (lines : List (List ℕ)) (after : List ℕ × List (List ℕ)) (done : Bool) → is_err r ≡ true → k < limit → k < length lines → after ≡ turned k bytes lines → Filled limit bytes lines r after done
+filled_short (Ok u) k limit bytes lines after done e lt some h = let z : ◌≡◌ {A = ℕ} 0 1 = cc in absurd (omega arith)
+filled_short (Err x) k limit bytes lines after done e lt some h = (k, lt, some, h)
 
 -- fewer lines have fewer bytes
 joined_upto : (k n : ℕ) (lines : List (List ℕ)) → k ≤ n → length (concat (take k lines)) ≤ length (concat (take n lines))

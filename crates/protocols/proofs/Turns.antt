@@ -1,15 +1,19 @@
 -- One turn of the reader's loop: the calls so far and what is left give what the whole protocol gives.
-use Rattle.std.proofs.Common.{◌≡◌, ℕ, ◌+◌, ◌<◌, ◌≤◌, List, [], ◌∷◌, ◌++◌, map, length, Some, None, Ok, Err, Result, sym, refl, ap, ◌∙◌, arith, length-append}
+use Rattle.std.proofs.Common.{◌≡◌, ℕ, ◌+◌, ◌<◌, ◌≤◌, List, [], ◌∷◌, ◌++◌, map, length, Some, None, Ok, Err, Result, Vec, sym, refl, ap, ◌∙◌, subst, arith, length-append}
 use Rattle.std.proofs.lemmas.List.{append_assoc, append-nil, map_push}
 use Rattle.engine.specs.Runs.{Order, order_of}
 use Rattle.engine.specs.declared.call.Call.{Call}
 use Rattle.sheets.specs.Cut.{Cut, cut}
 use Rattle.sheets.proofs.Cuts.{cut_line, cut_rest}
+use Rattle.protocols.specs.Laws.{FirstRead}
+use Rattle.protocols.specs.Views.{OnNoMemory}
+use Rattle.protocols.specs.declared.error.ProtocolError.{ProtocolError}
+use Rattle.protocols.specs.declared.error.ProtocolError.TheVariants.{Unreadable, NoMemory}
 use Rattle.protocols.specs.Reading.{parted, request_at, in_front, requests_from, requests_in, ordered}
 use Rattle.protocols.specs.Requests.{Request, order_for}
 use Rattle.items.proofs.Decimal.{clash}
 use Rattle.protocols.proofs.Parting.{parted_is, parted_front, parted_none}
-use Rattle.protocols.proofs.Whole.{from_none, from_some}
+use Rattle.protocols.proofs.Whole.{from_err, from_none, from_some}
 
 abbrev pub following : List Order → Result (List Order) ℕ → Result (List Order) ℕ
 following os (Ok ps) = Ok (os ++ ps)
@@ -98,3 +102,27 @@ turn_pushed calls pushed call n rest l r q p o e f =
     ∙ ap (λ (os : List Order). read_on os (n + 1) r) (map_push order_of calls call)
     ∙ ap (λ (x : Order). read_on (map order_of calls ++ (x ∷ [])) (n + 1) r) o
     ∙ turn_on (map order_of calls) n rest l r q e f
+
+-- behind some orders there was a first line
+read_some : (os : List Order) (n : ℕ) (rest : List ℕ) → 1 ≤ length os → 2 ≤ n → FirstRead (read_on os n rest)
+read_some os n rest some second = go (requests_from n (cut rest).lines (cut rest).rest) refl
+  where
+    go : (x : Result (List Request) ℕ) → requests_from n (cut rest).lines (cut rest).rest ≡ x → FirstRead (following os (ordered x))
+    go (Ok qs) e = let sum = length-append os (map order_for qs) in omega arith
+    go (Err m) e = let at = (from_err n (cut rest).lines (cut rest).rest m e).0 in omega arith
+
+-- a line that is read is the first, or stands behind it
+first_read : (os : List Order) (n : ℕ) (rest l r : List ℕ) (q : Request) → parted 10 rest ≡ Some (l, r) → request_at l ≡ Some q → 1 ≤ n → FirstRead (read_on os n rest)
+first_read os n rest l r q e f from =
+    let sum = length-append os (order_for q ∷ []) in
+    subst FirstRead (turn_on os n rest l r q e f) (read_some (os ++ (order_for q ∷ [])) (n + 1) r (omega arith) (omega arith))
+
+-- where memory runs out behind it
+pub out_behind : {Z : Type 0} (result : Result (Vec Call Z) ProtocolError) (bytes : List ℕ) (os : List Order) (n : ℕ) (rest l r : List ℕ) (q : Request) → parted 10 rest ≡ Some (l, r) → request_at l ≡ Some q → read_on os (n + 1) rest ≡ ordered (requests_in bytes) → OnNoMemory result (FirstRead (ordered (requests_in bytes)))
+out_behind result bytes os n rest l r q e f whole =
+    told result (subst FirstRead whole (first_read os (n + 1) rest l r q e f (omega arith)))
+  where
+    told : {Z : Type 0} (x : Result (Vec Call Z) ProtocolError) → FirstRead (ordered (requests_in bytes)) → OnNoMemory x (FirstRead (ordered (requests_in bytes)))
+    told (Ok calls) h = tt
+    told (Err (Unreadable line)) h = tt
+    told (Err NoMemory) h = h

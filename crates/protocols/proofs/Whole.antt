@@ -147,7 +147,7 @@ leading_some : (l : List ℕ) (ls : List (List ℕ)) (q : Request) → request_a
     → prefix_len readable (l ∷ ls) ≡ 1 + prefix_len readable ls
 leading_some l ls q e = ap (λ (o : Option Request). cond (is_some o) (1 + prefix_len readable ls) 0) e
 
-from_err : (n : ℕ) (ls : List (List ℕ)) (r : List ℕ) (m : ℕ) → requests_from n ls r ≡ Err m
+pub from_err : (n : ℕ) (ls : List (List ℕ)) (r : List ℕ) (m : ℕ) → requests_from n ls r ≡ Err m
     → (m ≡ n + prefix_len readable ls) × Here n ls r m
 unfolding requests_from
 from_err n [] [] m e = differ [] m e

@@ -33,3 +33,8 @@ pub record FirstUnreadable (bytes : List ℕ) (n : ℕ) : Type 0 where
 
 abbrev pub Refusing : List ℕ → Result (List Order) ℕ → Type 0
 Refusing bytes r = (n : ℕ) → r ≡ Err n → FirstUnreadable bytes n
+
+-- the first line is read: memory is asked for behind it alone
+abbrev pub FirstRead : Result (List Order) ℕ → Type 0
+FirstRead (Ok os) = 1 ≤ length os
+FirstRead (Err n) = 2 ≤ n

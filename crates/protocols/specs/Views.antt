@@ -1,5 +1,5 @@
 -- What the values of the code stand for.
-use Rattle.std.specs.Prelude.{◌≡◌, ℕ, List, map, Some, None, Ok, Err, vec_items, Option, Result, Vec}
+use Rattle.std.specs.Prelude.{◌≡◌, ℕ, Bool, true, List, map, Some, None, Ok, Err, vec_items, Option, Result, Vec}
 use Rattle.std.specs.Borrow.{Bor}
 use Rattle.engine.specs.Runs.{Order, order_of}
 use Rattle.engine.specs.Tallies.{cleared}
@@ -41,3 +41,18 @@ abbrev pub orders_of : {Z : Type 0} → Result (Vec Call Z) ProtocolError → Op
 orders_of (Ok calls) = Some (Ok (map order_of (vec_items calls)))
 orders_of (Err (Unreadable line)) = Some (Err line)
 orders_of (Err NoMemory) = None
+
+-- what holds where memory ran out
+abbrev pub OnNoMemory : {Z : Type 0} → Result (Vec Call Z) ProtocolError → Type 0 → Type 0
+OnNoMemory (Ok calls) P = Unit {0}
+OnNoMemory (Err (Unreadable line)) P = Unit {0}
+OnNoMemory (Err NoMemory) P = P
+
+-- a request whose call has no buffer is given one
+abbrev pub Spared : plain.Request → Bool → Type 0
+Spared plain.next granted = granted ≡ true
+Spared plain.restart granted = granted ≡ true
+Spared plain.tally granted = granted ≡ true
+Spared (plain.read size) granted = Unit {0}
+Spared (plain.save job size) granted = Unit {0}
+Spared (plain.resume job bytes) granted = Unit {0}

@@ -1,7 +1,7 @@
 //! The call that a request asks for.
-ghost use Rattle.std.specs.Prelude.{◌≡◌, replicate, IfOk};
+ghost use Rattle.std.specs.Prelude.{◌≡◌, replicate, is_ok, IfOk};
 ghost use Rattle.protocols.specs.Requests.{order_for};
-ghost use Rattle.protocols.specs.Views.{Fresh, request_of};
+ghost use Rattle.protocols.specs.Views.{Fresh, Spared, request_of};
 
 use super::bytes::decode;
 use super::request::Request;
@@ -20,7 +20,8 @@ fn unwritten(heap: Global, size: usize) -> Result<Vec<u8>, AllocError>
 
 // The act with its buffer, yet to be carried out.
 pub fn request_call(heap: Global, request: Request<'_>) -> Result<Call, AllocError>
-    ensures { IfOk result (λ call. Fresh (order_for (request_of request.entry)) call) }
+    ensures call { IfOk result (λ call. Fresh (order_for (request_of request.entry)) call) }
+    ensures spared { Spared (request_of request.entry) (is_ok result) }
 {
     let (act, buffer) = match request {
         Request::Next => (Act::Next, Vec::new(heap)),

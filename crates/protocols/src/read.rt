@@ -1,8 +1,8 @@
 //! A whole protocol.
 ghost use Rattle.std.specs.Prelude.{◌≡◌, IfSome};
-ghost use Rattle.protocols.specs.Laws.{Accepting, Refusing};
+ghost use Rattle.protocols.specs.Laws.{Accepting, FirstRead, Refusing};
 ghost use Rattle.protocols.specs.Reading.{ordered, requests_in};
-ghost use Rattle.protocols.specs.Views.{orders_of};
+ghost use Rattle.protocols.specs.Views.{OnNoMemory, orders_of};
 
 use super::calls::request_call;
 use super::error::ProtocolError;
@@ -17,6 +17,7 @@ pub fn read_protocol(heap: Global, bytes: &[u8]) -> Result<Vec<Call>, ProtocolEr
     ensures value { IfSome (orders_of result) (λ os. os ≡ ordered (requests_in bytes.now)) }
     ensures accepting { IfSome (orders_of result) (λ os. Accepting bytes.now os) }
     ensures refusing { IfSome (orders_of result) (λ os. Refusing bytes.now os) }
+    ensures memory { OnNoMemory result (FirstRead (ordered (requests_in bytes.now))) }
 {
     let mut calls = Vec::new(heap);
     let mut rest = bytes;

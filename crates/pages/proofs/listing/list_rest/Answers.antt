@@ -1,5 +1,5 @@
 use Rattle.std.proofs.Common.{◌≡◌, ℕ, ◌+◌, ◌≤◌, vec_items, vec_len, vec_capacity, sym, ap, ◌∙◌, subst, arith}
-use Rattle.pages.proofs.Onward.{pages_on, pages_end, room_onward, stopped_short}
+use Rattle.pages.proofs.Onward.{pages_on, pages_end, room_onward, short_on, stopped_short}
 use Rattle.pages.proofs.listing.list_rest.Goals as goal
 use Rattle.pages.specs.Left.{left}
 use Rattle.pages.specs.Lines.{line_room, page_room}
@@ -9,12 +9,13 @@ returns-in_err-page g c =
     let W = g.O.Walking in
     let stop = c.in_err-page.ensures.paged in
     let n = c.pages.invariant.turns in
-    let far = pages_on stop.0 n (vec_items c.args.out.now) (vec_items c.pages.out) (vec_items c.page.new.out) (left W.setup c.args.pager) (left W.setup c.pages.pager) (left W.setup c.page.new.self) c.pages.invariant.turned_so_far stop.2 in
+    let far = pages_on stop.0 n (vec_items c.args.out.now) (vec_items c.pages.out) (vec_items c.page.new.out) (left W.setup c.args.pager) (left W.setup c.pages.pager) (left W.setup c.page.new.self) c.pages.invariant.turned_so_far stop.3 in
+    let some = short_on stop.0 n (vec_items c.args.out.now) (vec_items c.pages.out) (left W.setup c.args.pager) (left W.setup c.pages.pager) c.pages.invariant.turned_so_far stop.2 in
     let l = c.pages in
     let s = W.setup c.args.pager.census.oracle in
     record {
       listed =
-          stopped_short c.from_residual.result (n + stop.0) (vec_items c.args.out.now) (vec_items c.page.new.out) _ c.from_residual.ensures.0
+          stopped_short c.from_residual.result (n + stop.0) (vec_items c.args.out.now) (vec_items c.page.new.out) _ c.from_residual.ensures.0 some
           (ap (λ x. x.0) far);
       capacity = omega (arith, c.page.ensures.capacity, c.pages.invariant.capacity);
       succeeds = λ enough.

@@ -5,7 +5,7 @@ use Rattle.engine.specs.Runs.{order_of}
 use Rattle.protocols.specs.Reading.{request_at}
 use Rattle.protocols.specs.declared.error.ProtocolError.TheVariants.{Unreadable}
 use Rattle.protocols.specs.Views.{request_of}
-use Rattle.protocols.proofs.Turns.{read_on, turn_first, turn_pushed, turn_bad, turn_end, turn_cut, turn_less}
+use Rattle.protocols.proofs.Turns.{out_behind, read_on, turn_first, turn_pushed, turn_bad, turn_end, turn_cut, turn_less}
 use Rattle.protocols.proofs.Whole.{accepting_as, refusing_as}
 use Rattle.protocols.proofs.read.read_protocol.Goals as goal
 
@@ -27,7 +27,19 @@ returns-in_err-request c =
     c.in-Some.line.now c.in-Some.behind.now (sym c.in-Some.ensures) none
     ∙ c.loop-line.invariant.0 in
     rw (p.1, p.2, error)
-    (record { value = value; accepting = accepting_as c.args.bytes.now _ value; refusing = refusing_as c.args.bytes.now _ value })
+    (record { value = value; accepting = accepting_as c.args.bytes.now _ value; refusing = refusing_as c.args.bytes.now _ value; memory = tt })
+
+pub returns-in_err-call-clause-memory : goal.returns-in_err-call-clause-memory
+returns-in_err-call-clause-memory c =
+    let good : request_at c.in-Some.line.now ≡ Some (request_of c.in_ok-request.request) = search rules in
+    out_behind c.from_residual-in_err-call.result c.args.bytes.now (map order_of (vec_items c.loop-line.calls)) (vec_len c.loop-line.calls) c.loop-line.rest.now
+    c.in-Some.line.now c.in-Some.behind.now (request_of c.in_ok-request.request) (sym c.in-Some.ensures) good c.loop-line.invariant.0
+
+pub returns-in_err-push-clause-memory : goal.returns-in_err-push-clause-memory
+returns-in_err-push-clause-memory c =
+    let good : request_at c.in-Some.line.now ≡ Some (request_of c.in_ok-request.request) = search rules in
+    out_behind c.from_residual-in_err-push.result c.args.bytes.now (map order_of (vec_items c.loop-line.calls)) (vec_len c.loop-line.calls) c.loop-line.rest.now
+    c.in-Some.line.now c.in-Some.behind.now (request_of c.in_ok-request.request) (sym c.in-Some.ensures) good c.loop-line.invariant.0
 
 pub loop-line-smaller : goal.loop-line-smaller
 loop-line-smaller c =
@@ -47,7 +59,7 @@ loop-line-preserved c =
       ap (λ n. read_on (map order_of (vec_items c.push.new.self)) n c.in-Some.behind.now) more
           ∙ turn_pushed (vec_items c.loop-line.calls) (vec_items c.push.new.self) c.in_ok-call.call (vec_len c.loop-line.calls + 1)
           c.loop-line.rest.now c.in-Some.line.now c.in-Some.behind.now (request_of c.in_ok-request.request)
-          c.in_ok-push.ensures.items c.in_ok-call.ensures.0 (sym c.in-Some.ensures)
+          c.in_ok-push.ensures.items c.in_ok-call.ensures.call.0 (sym c.in-Some.ensures)
           good
           ∙ c.loop-line.invariant.0,
       omega (arith, c.in_ok-push.ensures.len, c.loop-line.invariant.1),
@@ -61,7 +73,7 @@ returns-then-not-is_empty c =
     ∙ turn_cut (map order_of (vec_items c.loop-line.calls)) (vec_len c.loop-line.calls + 1) c.loop-line.rest.now
     (sym c.in_default.ensures) (omega (arith, some))
     ∙ c.loop-line.invariant.0 in
-    record { value = value; accepting = accepting_as c.args.bytes.now _ value; refusing = refusing_as c.args.bytes.now _ value }
+    record { value = value; accepting = accepting_as c.args.bytes.now _ value; refusing = refusing_as c.args.bytes.now _ value; memory = tt }
 
 pub returns : goal.returns
 returns c =
@@ -70,4 +82,4 @@ returns c =
     turn_end (map order_of (vec_items c.loop-line.calls)) (vec_len c.loop-line.calls + 1) c.loop-line.rest.now
     (sym c.in_default.ensures) none
     ∙ c.loop-line.invariant.0 in
-    record { value = value; accepting = accepting_as c.args.bytes.now _ value; refusing = refusing_as c.args.bytes.now _ value }
+    record { value = value; accepting = accepting_as c.args.bytes.now _ value; refusing = refusing_as c.args.bytes.now _ value; memory = tt }

@@ -1,5 +1,5 @@
 use Rattle.std.proofs.Common.{◌≡◌, ℕ, ◌+◌, ◌≤◌, vec_items, vec_len, vec_capacity, sym, ap, ◌∙◌, subst, inl, inr, arith}
-use Rattle.pages.proofs.Paging.{page_ends, room_left}
+use Rattle.pages.proofs.Paging.{filled_short, page_ends, room_left, still_left}
 use Rattle.pages.proofs.Turned.{turned_more}
 use Rattle.pages.proofs.pager.Pager.fill.Goals as goal
 use Rattle.pages.specs.Left.{left}
@@ -20,6 +20,14 @@ lines-preserved g c =
           ∙ ap (λ p. turned 1 p.0 p.1) c.lines.invariant.turned_so_far
           ∙ turned_more 1 c.lines.counter bytes from;
     }
+
+pub returns-in_err-turn-clause-filled : goal.returns-in_err-turn-clause-filled
+returns-in_err-turn-clause-filled g c =
+    let W = g.O.Walking in
+    let l = c.lines in
+    let self = l.self in
+    let some = still_left (W.setup self.census.oracle) self.census.view self.most self.printed self.done l.counter (left W.setup c.args.self.now) c.if-self.false (ap (λ p. p.1) l.invariant.turned_so_far) in
+    filled_short c.from_residual.result l.counter c.args.limit (vec_items c.args.out.now) (left W.setup c.args.self.now) (vec_items c.turn.new.out, left W.setup c.turn.new.self) c.turn.new.self.done c.from_residual.ensures.0 c.lines-test.true some (c.in_err-turn.ensures.lined ∙ l.invariant.turned_so_far)
 
 pub returns-in_err-turn-clause-succeeds : goal.returns-in_err-turn-clause-succeeds
 returns-in_err-turn-clause-succeeds g c = λ enough.
