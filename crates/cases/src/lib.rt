@@ -1,12 +1,12 @@
-//! Small cases worked by hand from the rules, and tables of sheets: tests alone.
+//! Small cases worked by hand from the rules: tests alone.
 #![tactic(auto)]
 
 #[cfg(test)]
 mod acts;
 #[cfg(test)]
-mod printing;
+mod long_sheets;
 #[cfg(test)]
-mod sheet_tables;
+mod printing;
 #[cfg(test)]
 mod small_caps;
 #[cfg(test)]

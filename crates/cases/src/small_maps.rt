@@ -6,86 +6,36 @@ use refusals::Refusal;
 use regions::Regions;
 use std::test::Fail;
 
-// 0 touches 1, and 1 touches 2.
-fn row_of_three() -> Result<Regions, Refusal> {
+// Where a slot leads from a set, and the return slot, if 0 touches 1 and 1 touches 2; no set has a region
+// past 7.
+fn across(set: u8, slot: usize) -> Result<(u8, Option<usize>), Refusal> {
     let map = map_of(3, &[(0, 1), (1, 2)])?;
-    Ok(Regions::new(&map))
-}
-
-fn standing_at(set: u8) -> Result<Regions, Refusal> {
-    let mut regions = row_of_three()?;
+    let mut regions = Regions::new(&map);
     regions.take(&[set, 0, 0, 0, 0, 0, 0, 0])?;
-    Ok(regions)
-}
-
-// The current set, which has no region past 7.
-fn current(regions: &Regions) -> Result<u8, Refusal> {
+    let back = regions.step(slot)?;
     let mut code = [0u8; 8];
     regions.put(&mut code)?;
-    Ok(code[0])
-}
-
-// The set that a slot leads to; at a vacant slot the set itself stays.
-fn across(set: u8, slot: usize) -> Result<u8, Refusal> {
-    let mut regions = standing_at(set)?;
-    regions.step(slot)?;
-    current(&regions)
+    Ok((code[0], back))
 }
 
 #[test]
-fn neighbours(rt: HostRuntime) -> Result<(), Fail> {
+fn neighbours(rt: HostRuntime) {
     // 0 and 2 do not touch, and without 1 no chain joins them
     let table = [
-        (0u8, 1usize, 2u8),
-        (2, 0, 3),
-        (2, 1, 0),
-        (2, 2, 6),
-        (1, 2, 1),
-        (7, 0, 6),
-        (7, 1, 7),
+        (0u8, 1usize, Ok((2u8, Some(1)))),
+        (2, 0, Ok((3, Some(0)))),
+        (2, 1, Ok((0, Some(1)))),
+        (2, 2, Ok((6, Some(2)))),
+        (1, 2, Ok((1, None))),
+        (7, 0, Ok((6, Some(0)))),
+        (7, 1, Ok((7, None))),
+        (7, 3, Err(Refusal::SlotRange)),
+        (5, 1, Err(Refusal::NotACode)),
+        (8, 1, Err(Refusal::NotACode)),
     ];
     for (set, slot, to) in table {
-        assert!(rt; across(set, slot)? == to);
+        assert!(rt; across(set, slot) == to);
     }
-    Ok(())
-}
-
-#[test]
-fn round_trips(rt: HostRuntime) -> Result<(), Fail> {
-    for set in [0u8, 1, 2, 3, 4, 6, 7] {
-        assert!(rt; current(&standing_at(set)?)? == set);
-    }
-    Ok(())
-}
-
-#[test]
-fn no_codes(rt: HostRuntime) -> Result<(), Fail> {
-    // 0 with 2, region 3, region 56
-    let table = [
-        [5u8, 0, 0, 0, 0, 0, 0, 0],
-        [8, 0, 0, 0, 0, 0, 0, 0],
-        [0, 0, 0, 0, 0, 0, 0, 1],
-    ];
-    let mut regions = standing_at(3)?;
-    for code in table {
-        assert!(rt; regions.take(&code).is_err());
-    }
-    assert!(rt; regions.take(&[1, 0, 0, 0, 0, 0, 0]).is_err());
-    assert!(rt; current(&regions)? == 3);
-    Ok(())
-}
-
-#[test]
-fn buffers_and_slots(rt: HostRuntime) -> Result<(), Fail> {
-    let mut regions = standing_at(3)?;
-    assert!(rt; regions.step(3).is_err());
-    let mut short = [9u8; 7];
-    assert!(rt; regions.put(&mut short).is_err());
-    assert_eq!(rt; short, [9; 7]);
-    let mut long = [9u8; 10];
-    regions.put(&mut long)?;
-    assert_eq!(rt; long, [3, 0, 0, 0, 0, 0, 0, 0, 9, 9]);
-    Ok(())
 }
 
 #[test]
