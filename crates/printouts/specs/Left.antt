@@ -7,14 +7,14 @@ use Rattle.oracle.specs.Setup.{Setup}
 use Rattle.pages.specs.Left.{left}
 use Rattle.polygon.specs.declared.subject.Polygon as polygons
 use Rattle.regions.specs.Views.{setup_of}
-use Rattle.regions.specs.declared.subject.Regions as maps
+use Rattle.regions.specs.declared.subject.Regions as regions
 use Rattle.sheets.specs.declared.fault.Fault as faults
 use Rattle.triangulations.specs.Census as triangulations
 use Rattle.printouts.specs.declared.sheet_pager.SheetPager.{SheetPager}
 use Rattle.printouts.specs.declared.sheet_pager.SheetPager.TheVariants.{Regions, Polygon, Fault}
 
 -- The set-up of a cap over each subject.
-abbrev pub capped_map : Cap maps.Regions → Setup
+abbrev pub capped_map : Cap regions.Regions → Setup
 capped_map c = capped c.most (setup_of c.below)
 
 abbrev pub capped_polygon : Cap polygons.Polygon → Setup

@@ -48,7 +48,7 @@ OnNoMemory (Ok calls) P = Unit {0}
 OnNoMemory (Err (Unreadable line)) P = Unit {0}
 OnNoMemory (Err NoMemory) P = P
 
--- a request whose call has no buffer is given one
+-- a request whose call needs no buffer is always granted
 abbrev pub Spared : plain.Request → Bool → Type 0
 Spared plain.next granted = granted ≡ true
 Spared plain.restart granted = granted ≡ true

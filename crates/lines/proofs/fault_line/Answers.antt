@@ -1,4 +1,5 @@
 use Rattle.std.proofs.Common.{arith}
+use Rattle.std.proofs.lemmas.Grind.{common_steps}
 use Rattle.lines.proofs.Steps.{length_byte, length_word}
 use Rattle.lines.proofs.fault_line.Goals as goal
 
@@ -20,3 +21,6 @@ put_number-requires-3 c = omega (arith, length_byte c.from.result (omega arith),
 
 pub push_reserved-requires : goal.push_reserved-requires
 push_reserved-requires c = omega (arith, length_byte c.from.result (omega arith), length_word c.from-2.result (omega arith), length_byte c.from-3.result (omega arith), c.in_ok-reserve.ensures.ok)
+
+pub returns : goal.returns
+returns c = grind (arith, common_steps)

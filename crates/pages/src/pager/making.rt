@@ -10,7 +10,7 @@ use oracle::coded::Coded;
 
 impl<O: Coded> Pager<O> {
     // The first line of at most so many objects.
-    #[tactic(auto, using(crate::proofs::Listed::whole_steps, crate::proofs::Places::begins_left, crate::proofs::Turned::pages_join))]
+    #[tactic(auto, using(crate::proofs::Listed::whole_steps, crate::proofs::Turned::pages_join))]
     pub fn new(oracle: O, most: u32) -> Pager<O>
         requires { O.Walking.sound oracle }
         ensures setup { O.Walking.setup result.census.oracle ≡ O.Walking.setup oracle }

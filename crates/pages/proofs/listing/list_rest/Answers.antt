@@ -1,4 +1,5 @@
 use Rattle.std.proofs.Common.{◌≡◌, ℕ, ◌+◌, ◌≤◌, vec_items, vec_len, vec_capacity, sym, ap, ◌∙◌, subst, arith}
+use Rattle.std.proofs.lemmas.Grind.{common_steps}
 use Rattle.pages.proofs.Onward.{pages_on, pages_end, room_onward, short_on, stopped_short}
 use Rattle.pages.proofs.listing.list_rest.Goals as goal
 use Rattle.pages.specs.Left.{left}
@@ -42,3 +43,6 @@ pages-preserved g c =
       turned_so_far =
           pages_on c.max-lines.result c.pages.invariant.turns (vec_items c.args.out.now) (vec_items c.pages.out) (vec_items c.page.new.out) (left W.setup c.args.pager) (left W.setup c.pages.pager) (left W.setup c.page.new.self) c.pages.invariant.turned_so_far h.paged.1;
     }
+
+pub pages-smaller : goal.pages-smaller
+pages-smaller g c = grind (arith, common_steps)

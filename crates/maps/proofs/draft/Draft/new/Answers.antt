@@ -1,4 +1,4 @@
-use Rattle.std.proofs.Common.{arith}
+use Rattle.std.proofs.Common.{arith, rules}
 use Rattle.maps.specs.Touch.{bare}
 use Rattle.maps.proofs.Tables.{mutual_bare, inside_bare, begun_good}
 use Rattle.maps.proofs.draft.Draft.new.Goals as goal
@@ -10,3 +10,6 @@ invariant_of-result c = record { some = omega arith; few = omega arith; «mutual
 pub returns : goal.returns
 unfolding bare
 returns c = begun_good c.args.n (omega arith) (omega arith)
+
+pub returns-then-n-lt1 : goal.returns-then-n-lt1
+returns-then-n-lt1 c = search rules

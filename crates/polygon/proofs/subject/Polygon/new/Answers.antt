@@ -1,4 +1,4 @@
-use Rattle.std.proofs.Common.{ap, arith}
+use Rattle.std.proofs.Common.{ap, arith, rules}
 use Rattle.triangulations.proofs.Fans.{fan_small, fan_triangulation}
 use Rattle.triangulations.proofs.Sides.{stands}
 use Rattle.triangulations.specs.Codes.{code_of}
@@ -18,3 +18,9 @@ returns c =
     let n = c.args.n in
     let s = settled n (fan n) c.fan_rows-rows.result.0 (fan_small n) (fan_triangulation n (omega arith) (omega arith)) c.fan_rows-rows.ensures in
     record { made = begun_good n _ (omega arith) (omega arith) (ap code_of s.same); stands = stands n }
+
+pub returns-then-n-lt3-clause-made : goal.returns-then-n-lt3-clause-made
+returns-then-n-lt3-clause-made c = search rules
+
+pub returns-then-n-lt3-clause-stands : goal.returns-then-n-lt3-clause-stands
+returns-then-n-lt3-clause-stands c = search rules

@@ -1,4 +1,4 @@
-use Rattle.std.proofs.Common.{refl, subst}
+use Rattle.std.proofs.Common.{refl, rules, subst}
 use Rattle.pages.proofs.Turned.{pages_join}
 use Rattle.printouts.proofs.Accepted.{asked_drawable}
 use Rattle.printouts.proofs.sheet_pager.SheetPager.of_sheet.Goals as goal
@@ -15,3 +15,6 @@ returns-in-Ok-clause-pages c limits = pages_join limits (sheet_lines c.args.shee
 
 pub returns-in-Err-clause-pages : goal.returns-in-Err-clause-pages
 returns-in-Err-clause-pages c limits = pages_join limits (sheet_lines c.args.sheet.now)
+
+pub returns-in-Err-clause-lines : goal.returns-in-Err-clause-lines
+returns-in-Err-clause-lines c = search rules

@@ -1,0 +1,8 @@
+use Rattle.std.proofs.Common.{rules}
+use Rattle.engine.proofs.census.tour.Tour.walk_on.Goals as goal
+
+pub returns-in-End-clause-advanced : goal.returns-in-End-clause-advanced
+returns-in-End-clause-advanced g c = search rules
+
+pub returns-in-End-clause-booked : goal.returns-in-End-clause-booked
+returns-in-End-clause-booked g c = search rules

@@ -1,0 +1,5 @@
+use Rattle.std.proofs.Common.{rules}
+use Rattle.maps.proofs.map.Map.regions.Goals as goal
+
+pub returns : goal.returns
+returns c = search rules

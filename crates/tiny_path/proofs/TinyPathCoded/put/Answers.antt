@@ -1,0 +1,5 @@
+use Rattle.std.proofs.Common.{rules}
+use Rattle.tiny_path.proofs.TinyPathCoded.put.Goals as goal
+
+pub returns : goal.returns
+returns c = search rules
