@@ -2,8 +2,8 @@
 #![tactic(auto)]
 
 use anyhow::{Context, bail};
+use lines::verdict::verdict_line;
 use printouts::{list_sheet, replay_sheet};
-use reports::verdict;
 use std::io;
 use std::io::Write;
 
@@ -29,7 +29,7 @@ fn answer(rt: &HostRuntime, example: &str, out: &mut Vec<u8>) -> anyhow::Result<
     let form = parts.next().context("no example")?;
     let sheet = bytes_of(rt, parts.next().context("an example without a sheet")?)?;
     match (form, parts.next()) {
-        ("verdict", None) => out.extend_from_slice(verdict(rt.alloc(), &sheet)?.as_bytes())?,
+        ("verdict", None) => verdict_line(out, &sheet)?,
         ("list", None) => list_sheet(&sheet, PAGE, out)?,
         ("replay", Some(acts)) => {
             let acts = bytes_of(rt, acts)?;

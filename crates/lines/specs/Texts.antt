@@ -1,6 +1,8 @@
 -- The lines that a program prints, as bytes.
-use Rattle.std.specs.Prelude.{ℕ, ◌+◌, ◌*◌, ◌/◌, ◌%◌, Bool, cond, List, [], ◌∷◌, ◌++◌, codes, decimal, nat_lt}
-use Rattle.sheets.specs.Told.{fault_words}
+use Rattle.std.specs.Prelude.{ℕ, ◌+◌, ◌*◌, ◌/◌, ◌%◌, Bool, cond, List, [], ◌∷◌, ◌++◌, codes, decimal, nat_lt, Ok, Err, Result}
+use Rattle.sheets.specs.Reading.{Wanted, read_all}
+use Rattle.sheets.specs.Settings.{Topic, regions, polygon}
+use Rattle.sheets.specs.Told.{fault_words, pairs_of}
 use Rattle.sheets.specs.declared.fault.Fault.{Fault}
 
 -- The small hexadecimal digit of a number below 16.
@@ -38,6 +40,37 @@ fault_text f = fault_words f ++ (10 ∷ [])
 -- most, ten digits of the line, and the end.
 abbrev pub fault_room : ℕ
 fault_room = 36
+
+-- What a sheet is about: the letter, and the number of regions or corners.
+abbrev pub subject_text : Topic → List ℕ
+subject_text (regions m) = codes "R " ++ decimal m.count_of
+subject_text (polygon n) = codes "P " ++ decimal n
+
+-- What an accepted sheet asks for.
+abbrev pub plan_text : Wanted → List ℕ
+plan_text w =
+    codes "accepted " ++ (subject_text w.topic ++ (codes " pairs " ++ (decimal (pairs_of w.topic)
+    ++ (codes " cap " ++ (decimal w.cap ++ (codes " most " ++ (decimal w.most ++ (10 ∷ []))))))))
+
+-- The room that is enough for it: a letter, a space and ten digits; and words of nine, seven, five and six
+-- bytes, three numbers of ten digits at most, and the end.
+abbrev pub subject_room : ℕ
+subject_room = 12
+
+abbrev pub plan_room : ℕ
+plan_room = 70
+
+-- What a sheet's bytes come to: what it asks for, or its fault.
+abbrev pub verdict_text : Result Wanted Fault → List ℕ
+verdict_text (Ok w) = plan_text w
+verdict_text (Err f) = fault_text f
+
+abbrev pub verdict_on : List ℕ → List ℕ
+verdict_on bytes = verdict_text (read_all bytes)
+
+-- The room that is enough for either.
+abbrev pub verdict_room : ℕ
+verdict_room = plan_room
 
 -- A number; the two numbers of a tally; the number of a refusal.
 abbrev pub number_text : ℕ → List ℕ

@@ -1,15 +1,14 @@
 //! Reads a sheet from standard input and says in one line what it asks for, or its fault.
 #![tactic(auto)]
 
+use lines::verdict::verdict_line;
+use sheets::sheet_bytes;
 use std::io::Write;
 
-fn run(rt: &HostRuntime) -> anyhow::Result<()> {
-    let bytes = sheets::sheet_bytes(rt.alloc(), rt.stdin())?;
-    let line = reports::verdict(rt.alloc(), bytes.as_slice())?;
-    rt.stdout().write_all(line.as_bytes())?;
-    Ok(())
-}
-
 fn main(rt: HostRuntime) -> anyhow::Result<()> {
-    run(&rt)
+    let sheet = sheet_bytes(rt.alloc(), rt.stdin())?;
+    let mut line = Vec::new(rt.alloc());
+    verdict_line(&mut line, sheet.as_slice())?;
+    rt.stdout().write_all(line.as_slice())?;
+    Ok(())
 }

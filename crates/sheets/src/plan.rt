@@ -4,7 +4,6 @@ ghost use Rattle.sheets.specs.Told.{pairs_of};
 ghost use Rattle.sheets.specs.Views.{subject_of};
 
 use maps::{Draft, Map};
-use std::fmt;
 
 // What a sheet is about: regions, as a draft while their pair lines come and then as a sealed map, or a
 // polygon's number of corners.
@@ -58,35 +57,5 @@ impl Subject<Map> {
             Subject::Regions(map) => map.pair_count(),
             Subject::Polygon(_) => 0,
         }
-    }
-}
-
-// The letter, and the number of regions or corners.
-impl fmt::Display for Subject<Map> {
-    ghost use Rattle.std.specs.Prelude.{Some};
-    ghost use Rattle.sheets.specs.Told.{subject_words};
-    ghost use Rattle.sheets.specs.Views.{subject_of};
-
-    ghost output = { λ subject. Some (subject_words (subject_of subject)) };
-
-    fn fmt<W: fmt::Write>(&self, f: &mut fmt::Formatter<W>) -> fmt::Result {
-        match self {
-            Subject::Regions(map) => write!(f, "R {}", map.regions()),
-            Subject::Polygon(n) => write!(f, "P {n}"),
-        }
-    }
-}
-
-impl fmt::Display for Plan {
-    ghost use Rattle.std.specs.Prelude.{Some};
-    ghost use Rattle.sheets.specs.Told.{plan_words};
-    ghost use Rattle.sheets.specs.Views.{plan_of};
-
-    ghost output = { λ plan. Some (plan_words (plan_of plan)) };
-
-    fn fmt<W: fmt::Write>(&self, f: &mut fmt::Formatter<W>) -> fmt::Result {
-        let Plan { subject, cap, most } = self;
-        let pairs = subject.pairs();
-        write!(f, "accepted {subject} pairs {pairs} cap {cap} most {most}")
     }
 }
