@@ -7,7 +7,7 @@ use Rattle.std.proofs.lemmas.Fmt.{digits_decimal, digits_value-decimal, length-d
 use Rattle.std.proofs.lemmas.Str.Parse.{IsNumeralModel, numerals_by_fold, digits_value_short}
 use Rattle.std.proofs.lemmas.Bool.{and_parts, and_from, cases_eq}
 use Rattle.std.proofs.lemmas.Bool.Decides.{nat_tests}
-use Rattle.items.specs.Numerals.{most_digits, read_on, trim, number_of, numeral_of}
+use Rattle.items.specs.Numerals.{most_digits, read_on, trim, number_of, numeral_of, Writes}
 
 -- no number comes of nothing
 pub clash : {X : Type 0} (x : X) {Y : Type 0} → None ≡ Some x → Y
@@ -109,6 +109,17 @@ is_number m v some few small =
     let h = fits_wide m v few small in
     ap (by_trim (decimal v)) (trim_from m (decimal v) (decimal_trimmed m v some small h))
     ∙ read_digits 0 (decimal v) (digits_in v h) ∙ ap Some (digits_value-decimal own v h)
+
+pub number_writes : (m : ℕ) → m ≤ 19 → (bs : List ℕ) → Writes m bs (number_of m bs)
+unfolding by_trim
+number_writes m few bs v = (
+  λ e. let n = number_is m few bs v e in (some (trim m bs) refl e, n.0, n.1),
+  λ h. ap (number_of m) h.2 ∙ is_number m v h.0 few h.1,
+)
+  where
+    some : (t : Bool) → trim m bs ≡ t → number_of m bs ≡ Some v → 1 ≤ m
+    some true f e = let h = trimmed m bs f in omega (arith, h)
+    some false f e = clash v (sym (ap (by_trim bs) f) ∙ e)
 
 pub numeral_is : (bs : List ℕ) (v : ℕ) → numeral_of bs ≡ Some v → (v < 10 ^ most_digits) × (bs ≡ decimal v)
 numeral_is bs v e = number_is most_digits (omega arith) bs v e

@@ -1,10 +1,10 @@
--- What `part_at` gives at the end of a line, at a letter and at a space.
+-- What `part_at` gives at the end of a line, at a letter and at a space, and where the item begins.
 use Rattle.std.proofs.Common.{◌≡◌, ℕ, ◌+◌, ◌-◌, ◌<◌, ◌≤◌, List, length, get_or, take, drop, ◌∙◌, arith}
 use Rattle.std.specs.Char.{is_ascii_digit}
 use Rattle.std.specs.List.{prefix_len}
 use Rattle.std.proofs.lemmas.List.{at_drop_more, at_drop_all, take_rest}
 use Rattle.std.proofs.lemmas.Bool.{eq-eqb, ne_eqb, cond-true, cond-false}
-use Rattle.items.specs.Items.{letter, number, break, part_from, part_at}
+use Rattle.items.specs.Items.{letter, number, break, part_from, part_at, begins_from, begins_at}
 
 pub item_end : (line : List ℕ) (at : ℕ) → length line ≤ at → part_at line at ≡ (break, at)
 unfolding part_at
@@ -35,3 +35,19 @@ item_cut line at n h e r =
     let same : n - 0 ≡ n = omega arith in
     let told = item_number line at h e in
     cc
+
+pub begins_end : (line : List ℕ) (at : ℕ) → length line ≤ at → begins_at line at ≡ at
+unfolding begins_at
+begins_end line at h = at_drop_all (λ xs. begins_from xs at) line at h
+
+pub begins_letter : (line : List ℕ) (at : ℕ) → at < length line → (get_or line at 0 ≡ 32 → ⊥) → begins_at line at ≡ at
+unfolding begins_at
+begins_letter line at h ne =
+    at_drop_more (λ xs. begins_from xs at) line at 0 h
+    ∙ cond-false {A = ℕ} _ (at + 1) at (ne_eqb (get_or line at 0) 32 ne)
+
+pub begins_number : (line : List ℕ) (at : ℕ) → at < length line → get_or line at 0 ≡ 32 → begins_at line at ≡ at + 1
+unfolding begins_at
+begins_number line at h e =
+    at_drop_more (λ xs. begins_from xs at) line at 0 h
+    ∙ cond-true {A = ℕ} _ (at + 1) at (eq-eqb (get_or line at 0) 32 e)

@@ -10,7 +10,6 @@ use Rattle.refusals.specs.declared.Refusal.{Refusal}
 use Rattle.refusals.specs.declared.Refusal.TheVariants.{FirstByte, LineForm}
 use Rattle.items.specs.Items.{Part, letter, number, break, part_from, part_at}
 use Rattle.items.specs.Lines.{kind_of, kind_in, kind_at, number_in, ended, paired, numbered, lettered, well_formed, line_of}
-use Rattle.items.specs.Numerals.{numeral_of}
 use Rattle.items.specs.Texts.{text_of, Short, Spells}
 use Rattle.items.specs.declared.line.Kind.{Kind}
 use Rattle.items.specs.declared.line.Kind.TheVariants as kind
@@ -29,14 +28,14 @@ drop_on : (l xs : List ℕ) (at n b : ℕ) → drop at l ≡ b ∷ xs → drop (
 drop_on l xs at n b e = sym (drop-drop n (at + 1) l) ∙ ap (drop n) (sym (drop-drop 1 at l) ∙ ap (drop 1) e)
 
 -- how many digits stand in front
-abbrev run : List ℕ → ℕ
+abbrev pub run : List ℕ → ℕ
 run bs = prefix_len is_ascii_digit bs
 
-at_space : (l bs : List ℕ) (at b : ℕ) → drop at l ≡ b ∷ bs → eqb b 32 ≡ true
+pub at_space : (l bs : List ℕ) (at b : ℕ) → drop at l ≡ b ∷ bs → eqb b 32 ≡ true
     → part_at l at ≡ (number (take (run bs) bs), at + 1 + run bs)
 at_space l bs at b f g = at_from l (b ∷ bs) at f ∙ cond-true _ (number (take (run bs) bs), at + 1 + run bs) (letter b, at + 1) g
 
-at_letter : (l bs : List ℕ) (at b : ℕ) → drop at l ≡ b ∷ bs → eqb b 32 ≡ false → part_at l at ≡ (letter b, at + 1)
+pub at_letter : (l bs : List ℕ) (at b : ℕ) → drop at l ≡ b ∷ bs → eqb b 32 ≡ false → part_at l at ≡ (letter b, at + 1)
 at_letter l bs at b f g = at_from l (b ∷ bs) at f ∙ cond-false _ (number (take (run bs) bs), at + 1 + run bs) (letter b, at + 1) g
 
 number_here : (l : List ℕ) (at a : ℕ) → number_in (part_at l at).0 ≡ Some a
@@ -81,6 +80,12 @@ break_here l at e = go (drop at l) refl
     go [] f = f
     go (b ∷ bs) f = item b bs f (eqb b 32) refl
 
+-- an item that is a number, by its value
+pub number_part : (p : Part) (a : ℕ) → number_in p ≡ Some a → (a < 10 ^ 7) × (p ≡ number (decimal a))
+number_part (letter b) a e = clash a e
+number_part (number ds) a e = let n = numeral_is ds a e in (n.0, ap number n.1)
+number_part break a e = clash a e
+
 run_digits : (ds tail : List ℕ) → all_ascii_digits ds ≡ true → run tail ≡ 0 → run (ds ++ tail) ≡ length ds
 run_digits [] tail h e = e
 run_digits (d ∷ ds) tail h e =
@@ -89,22 +94,25 @@ run_digits (d ∷ ds) tail h e =
     let first = cond-true (is_ascii_digit d) (1 + run (ds ++ tail)) 0 p.0 in
     omega arith
 
-here_number : (l tail : List ℕ) (at a : ℕ) → a < 10 ^ 7 → run tail ≡ 0 → drop at l ≡ 32 ∷ (decimal a ++ tail)
-    → (number_in (part_at l at).0 ≡ Some a) × (drop (part_at l at).1 l ≡ tail)
+pub here_number : (l tail : List ℕ) (at a : ℕ) → a < 10 ^ 7 → run tail ≡ 0 → drop at l ≡ 32 ∷ (decimal a ++ tail)
+    → ((part_at l at).0 ≡ number (decimal a)) × (drop (part_at l at).1 l ≡ tail)
 here_number l tail at a h none f =
     let bs = decimal a ++ tail in
     let p = at_space l bs at 32 f refl in
     let n = run_digits (decimal a) tail (digits_in a (omega arith)) none in (
-      ap (λ (r : Part × ℕ). number_in r.0) p ∙ ap numeral_of (take_at (decimal a) tail (run bs) (sym n)) ∙ is_numeral a h,
+      ap (λ (r : Part × ℕ). r.0) p ∙ ap number (take_at (decimal a) tail (run bs) (sym n)),
       ap (λ (r : Part × ℕ). drop r.1 l) p ∙ drop_on l bs at (run bs) 32 f ∙ drop_at (decimal a) tail (run bs) (sym n),
     )
 
-here_break : (l : List ℕ) (at : ℕ) → drop at l ≡ [] → (part_at l at).0 ≡ break
+here_value : (l : List ℕ) (at a : ℕ) → a < 10 ^ 7 → (part_at l at).0 ≡ number (decimal a) → number_in (part_at l at).0 ≡ Some a
+here_value l at a h e = ap number_in e ∙ is_numeral a h
+
+pub here_break : (l : List ℕ) (at : ℕ) → drop at l ≡ [] → (part_at l at).0 ≡ break
 here_break l at f = ap (λ (r : Part × ℕ). r.0) (at_from l [] at f)
 
 -- ---- the parts of a line
 
-abbrev byte_of : Kind → ℕ
+abbrev pub byte_of : Kind → ℕ
 byte_of kind.Regions = 82
 byte_of kind.Polygon = 80
 byte_of kind.Pair = 45
@@ -122,6 +130,12 @@ ended_is : (p : Part) (y x : Line) → ended p y ≡ Some x → (p ≡ break) ×
 ended_is (letter b) y x e = clash x e
 ended_is (number ds) y x e = clash x e
 ended_is break y x e = (refl, cc)
+
+-- an item that is one of the five letters
+pub letter_part : (p : Part) (k : Kind) → kind_in p ≡ Some k → p ≡ letter (byte_of k)
+letter_part (letter b) k e = ap letter (kind_byte b k e)
+letter_part (number ds) k e = clash k e
+letter_part break k e = clash k e
 
 -- a line of one number: nothing is left behind it
 alone : (l : List ℕ) (at b a : ℕ) → (part_at l at).0 ≡ break
@@ -225,7 +239,7 @@ lettered_from : (k : Kind) (l tail : List ℕ) (at a : ℕ) (y : Option Line) �
 unfolding by_number
 lettered_from k l tail at a y h none f rest =
     let n = here_number l tail at a h none f in
-    ap (by_number k l at) n.0 ∙ rest (part_at l at).1 n.1
+    ap (by_number k l at) (here_value l at a h n.0) ∙ rest (part_at l at).1 n.1
 
 ended_from : (l : List ℕ) (at : ℕ) (y : Line) → drop at l ≡ [] → ended (part_at l at).0 y ≡ Some y
 ended_from l at y f = ap (λ p. ended p y) (here_break l at f)
@@ -236,7 +250,7 @@ alone_from b a = ap (λ ys. 32 ∷ ys) (sym (append-nil (decimal a)))
 paired_from : (a b : ℕ) (l : List ℕ) (at : ℕ) → b < 10 ^ 7 → drop at l ≡ 32 ∷ decimal b → paired a l at ≡ Some (line.Pair a b)
 paired_from a b l at h f =
     let n = here_number l [] at b h refl (f ∙ ap (λ ys. 32 ∷ ys) (sym (append-nil (decimal b)))) in
-    ap by n.0 ∙ ended_from l (part_at l at).1 (line.Pair a b) n.1
+    ap by (here_value l at b h n.0) ∙ ended_from l (part_at l at).1 (line.Pair a b) n.1
   where
     by : Option ℕ → Option Line
     by o = elim o [ None ↦ None | Some c ↦ ended (part_at l (part_at l at).1).0 (line.Pair a c) ]

@@ -1,6 +1,6 @@
 -- Which number decimal digits write: no leading zero except in 0 itself, and in a numeral one to
 -- seven digits.
-use Rattle.std.specs.Prelude.{ℕ, ◌+◌, ◌-◌, ◌*◌, Bool, true, false, not, ◌&&◌, ◌||◌, List, [], ◌∷◌, length, Some, None, Option, ◌==◌, nat_le, slice_index}
+use Rattle.std.specs.Prelude.{◌≡◌, ℕ, ◌+◌, ◌-◌, ◌*◌, ◌^◌, ◌<◌, ◌≤◌, ◌↔◌, decimal, Bool, true, false, not, ◌&&◌, ◌||◌, List, [], ◌∷◌, length, Some, None, Option, ◌==◌, nat_le, slice_index}
 use Rattle.std.specs.Char.{is_ascii_digit}
 
 -- the most digits that a numeral has
@@ -22,3 +22,7 @@ number_of most bs = elim (trim most bs) [ true ↦ read_on 0 bs | false ↦ None
 
 abbrev pub numeral_of : List ℕ → Option ℕ
 numeral_of bs = number_of most_digits bs
+
+-- bytes write a number of at most so many digits exactly if they are its decimal
+abbrev pub Writes : ℕ → List ℕ → Option ℕ → Type 0
+Writes most bs o = (v : ℕ) → (o ≡ Some v) ↔ ((1 ≤ most) × (v < 10 ^ most) × (bs ≡ decimal v))

@@ -1,7 +1,7 @@
 ghost use Rattle.std.specs.Prelude.{◌≡◌, ◌≤◌, length};
 ghost use Rattle.std.specs.Char.{is_ascii_digit};
 ghost use Rattle.std.specs.List.{prefix_len};
-ghost use Rattle.items.specs.Items.{part_of, place_of, part_at};
+ghost use Rattle.items.specs.Items.{part_of, place_of, part_at, begins_at};
 
 use super::item::{Item, Place};
 
@@ -35,10 +35,10 @@ impl<'a> Lexer<'a> {
         }
     }
 
-    // The item at the present place, which moves behind it; at the end of the line its break.
+    // The item from the present place on, which moves behind it; at the end of the line its break.
     pub fn next_item(&mut self) -> Item<'a>
         ensures item { (part_of result, self.new.place.at) ≡ part_at self.old.line.now self.old.place.at }
-        ensures place { place_of result ≡ self.old.place }
+        ensures place { place_of result ≡ record { line = self.old.place.line; at = begins_at self.old.line.now self.old.place.at } }
         ensures line { self.new.line.now ≡ self.old.line.now }
         ensures number { self.new.place.line ≡ self.old.place.line }
     {
@@ -47,13 +47,17 @@ impl<'a> Lexer<'a> {
         let Some(first) = line.get(start.at) else {
             return Item::Break(start);
         };
+        let behind = Place {
+            line: start.line,
+            at: start.at + 1,
+        };
         if *first != b' ' {
-            self.place.at = start.at + 1;
+            self.place = behind;
             return Item::Letter(first, start);
         }
-        let rest = &line[start.at + 1..];
+        let rest = &line[behind.at..];
         let n = digit_run(rest);
-        self.place.at = start.at + 1 + n;
-        Item::Number(&rest[0..n], start)
+        self.place.at = behind.at + n;
+        Item::Number(&rest[0..n], behind)
     }
 }

@@ -8,8 +8,7 @@ mod line;
 mod numerals;
 mod parse;
 
-pub use item::{Item, Place};
-pub use lexer::Lexer;
+pub use item::{Place, Placed};
 pub use line::{Kind, Line};
-pub use numerals::{number, numeral};
-pub use parse::{kind_of, read_line};
+pub use numerals::number;
+pub use parse::read_line;

@@ -1,5 +1,5 @@
 ghost use Rattle.std.specs.Prelude.{◌≡◌, ◌^◌, ◌<◌, ◌≤◌, min, length, IfSome};
-ghost use Rattle.items.specs.Numerals.{trim as trimmed, read_on, number_of, numeral_of};
+ghost use Rattle.items.specs.Numerals.{trim as trimmed, read_on, number_of, numeral_of, Writes};
 
 // The most digits of a number on a sheet.
 const SHEET_DIGITS: usize = 7;
@@ -33,6 +33,7 @@ fn read_digits(bytes: &[u8]) -> Option<u64>
 // such digits.
 pub fn number<const MOST: usize>(bytes: &[u8]) -> Option<u64>
     ensures value { result ≡ number_of (min MOST 19) bytes.now }
+    ensures decimal { Writes (min MOST 19) bytes.now result }
     ensures within { IfSome result (λ n. n < 10 ^ min MOST 19) }
 {
     let most = MOST.min(WORD_DIGITS);
@@ -43,7 +44,7 @@ pub fn number<const MOST: usize>(bytes: &[u8]) -> Option<u64>
 }
 
 // The number that a numeral writes; none where the bytes are no numeral.
-pub fn numeral(bytes: &[u8]) -> Option<u32>
+pub(crate) fn numeral(bytes: &[u8]) -> Option<u32>
     ensures { result ≡ numeral_of bytes.now }
 {
     Some(number::<SHEET_DIGITS>(bytes)? as u32)

@@ -1,17 +1,17 @@
-ghost use Rattle.std.specs.Prelude.{◌≡◌};
-ghost use Rattle.items.specs.Items.{part_of, part_at};
-ghost use Rattle.items.specs.Texts.{Spells};
-ghost use Rattle.items.specs.Lines.{kind_of, kind_in, number_in, ended, paired, numbered, lettered, line_of};
+ghost use Rattle.std.specs.Prelude.{◌≡◌, suc, ok_or};
+ghost use Rattle.items.specs.Items.{part_of, place_of, part_at};
+ghost use Rattle.items.specs.Texts.{Spells, SevenDigits};
+ghost use Rattle.items.specs.Lines.{kind_of, kind_in, number_in, ended, paired, numbered, lettered};
+ghost use Rattle.items.specs.Faults.{spot, misfit, numbers_behind, line_read, unplaced, Located, ByHand};
 
-use super::item::Item;
+use super::item::{Item, Place, Placed};
 use super::lexer::Lexer;
 use super::line::{Kind, Line};
 use super::numerals::numeral;
 use refusals::Refusal;
 
-// The first byte of a line, as a character, says what the line is about; the project's rules ask for
-// this match on the character.
-pub fn kind_of(byte: u8) -> Option<Kind>
+// The first byte of a line says what the line is about: the five letters are matched as characters.
+fn kind_of(byte: u8) -> Option<Kind>
     ensures { result ≡ kind_of byte }
 {
     match char::from(byte) {
@@ -24,45 +24,58 @@ pub fn kind_of(byte: u8) -> Option<Kind>
     }
 }
 
-fn kind_in(item: Item) -> Option<Kind>
-    ensures { result ≡ kind_in (part_of item.entry) }
+fn place_of(item: Item) -> Place
+    ensures { result ≡ place_of item.entry }
 {
     match item {
-        Item::Letter(byte, _) => kind_of(*byte),
-        _ => None,
+        Item::Letter(_, place) => place,
+        Item::Number(_, place) => place,
+        Item::Break(place) => place,
     }
 }
 
-fn number_in(item: Item) -> Option<u32>
-    ensures { result ≡ number_in (part_of item.entry) }
+// What the letter says, or the place of an item that is none of the five.
+fn kind_in(item: Item) -> Result<Kind, Place>
+    ensures { result ≡ ok_or (kind_in (part_of item.entry)) (place_of item.entry) }
 {
     match item {
-        Item::Number(digits, _) => numeral(digits),
-        _ => None,
+        Item::Letter(byte, place) => kind_of(*byte).ok_or(place),
+        _ => Err(place_of(item)),
     }
 }
 
-// The line, if its break comes next.
-fn end_of(item: Item, line: Line) -> Option<Line>
-    ensures { result ≡ ended (part_of item.entry) line }
+// The number, or the place of an item that is no number or a malformed one.
+fn number_in(item: Item) -> Result<u32, Place>
+    ensures { result ≡ ok_or (number_in (part_of item.entry)) (place_of item.entry) }
 {
     match item {
-        Item::Break(_) => Some(line),
-        _ => None,
+        Item::Number(digits, place) => numeral(digits).ok_or(place),
+        _ => Err(place_of(item)),
     }
 }
 
-// A pair line behind its first number.
-fn pair_from(first: u32, lexer: &mut Lexer) -> Option<Line>
-    ensures { result ≡ paired first lexer.old.line.now lexer.old.place.at }
+// The line, if its break comes next, or the place of what does.
+fn end_of(item: Item, line: Line) -> Result<Line, Place>
+    ensures { result ≡ ok_or (ended (part_of item.entry) line) (place_of item.entry) }
+{
+    match item {
+        Item::Break(_) => Ok(line),
+        _ => Err(place_of(item)),
+    }
+}
+
+// A pair line behind its first number, or the place of the first item that does not fit.
+fn pair_from(first: u32, lexer: &mut Lexer) -> Result<Line, Place>
+    ensures { result ≡ ok_or (paired first lexer.old.line.now lexer.old.place.at) (spot lexer.old.place.line (misfit 1 lexer.old.line.now lexer.old.place.at)) }
 {
     let second = number_in(lexer.next_item())?;
     end_of(lexer.next_item(), Line::Pair(first, second))
 }
 
-// A line behind its first number.
-fn line_from(kind: Kind, first: u32, lexer: &mut Lexer) -> Option<Line>
-    ensures { result ≡ numbered kind first lexer.old.line.now lexer.old.place.at }
+// A line behind its first number, or the place of the first item that does not fit.
+#[tactic(auto, unfolding(crate::specs::Faults::misfit))]
+fn line_from(kind: Kind, first: u32, lexer: &mut Lexer) -> Result<Line, Place>
+    ensures { result ≡ ok_or (numbered kind first lexer.old.line.now lexer.old.place.at) (spot lexer.old.place.line (misfit (numbers_behind kind) lexer.old.line.now lexer.old.place.at)) }
 {
     match kind {
         Kind::Regions => end_of(lexer.next_item(), Line::Regions(first)),
@@ -73,28 +86,42 @@ fn line_from(kind: Kind, first: u32, lexer: &mut Lexer) -> Option<Line>
     }
 }
 
-// A line behind its letter.
-fn numbers_from(kind: Kind, lexer: &mut Lexer) -> Option<Line>
-    ensures { result ≡ lettered kind lexer.old.line.now lexer.old.place.at }
+// A line behind its letter, or the place of the first item that does not fit.
+fn numbers_from(kind: Kind, lexer: &mut Lexer) -> Result<Line, Place>
+    ensures { result ≡ ok_or (lettered kind lexer.old.line.now lexer.old.place.at) (spot lexer.old.place.line (misfit (suc (numbers_behind kind)) lexer.old.line.now lexer.old.place.at)) }
 {
     let first = number_in(lexer.next_item())?;
     line_from(kind, first, lexer)
 }
 
 // The line's letter, and then its numbers.
-#[tactic(auto, unfolding(crate::specs::Lines::line_of))]
-fn parse_line(bytes: &[u8], number: u32) -> Result<Line, Refusal>
-    ensures { result ≡ line_of bytes.now }
+fn parse_line(bytes: &[u8], number: u32) -> Result<Placed<Line>, Placed<Refusal>>
+    ensures { result ≡ line_read bytes.now number }
 {
     let mut lexer = Lexer::new(bytes, number);
-    let kind = kind_in(lexer.next_item()).ok_or(Refusal::FirstByte)?;
-    numbers_from(kind, &mut lexer).ok_or(Refusal::LineForm)
+    let letter = lexer.next_item();
+    let kind = kind_in(letter).map_err(|place| Placed {
+        value: Refusal::FirstByte,
+        place,
+    })?;
+    let line = numbers_from(kind, &mut lexer).map_err(|place| Placed {
+        value: Refusal::LineForm,
+        place,
+    })?;
+    Ok(Placed {
+        value: line,
+        place: place_of(letter),
+    })
 }
 
-// What the finished line of that number says, or what is wrong with its bytes.
-pub fn read_line(bytes: &[u8], number: u32) -> Result<Line, Refusal>
-    ensures value { result ≡ line_of bytes.now }
-    ensures spells { Spells bytes.now result }
+// What the finished line of that number says, with the place of its letter; or what is wrong with its bytes,
+// with the place of the first item that does not fit.
+pub fn read_line(bytes: &[u8], number: u32) -> Result<Placed<Line>, Placed<Refusal>>
+    ensures value { result ≡ line_read bytes.now number }
+    ensures located { Located bytes.now number result }
+    ensures by_hand { ByHand bytes.now number result }
+    ensures spells { Spells bytes.now (unplaced result) }
+    ensures seven_digits { SevenDigits bytes.now (unplaced result) }
 {
     parse_line(bytes, number)
 }

@@ -7,7 +7,7 @@ use super::map::Map;
 use refusals::Refusal;
 
 // What is wrong with a pair among n regions.
-pub fn pair_fault(n: u32, a: u32, b: u32) -> Option<Refusal>
+fn pair_fault(n: u32, a: u32, b: u32) -> Option<Refusal>
     ensures { result ≡ pair_fault n a b }
 {
     if a >= n || b >= n {
@@ -47,7 +47,6 @@ impl Draft {
     pub fn add(&mut self, a: u32, b: u32) -> Result<(), Refusal>
         ensures { (result, drafted self.new) ≡ offered (drafted self.old) a b }
     {
-        // the public answer is what is wrong, or none, so it is an Option and not a Result
         if let Some(refusal) = pair_fault(self.map.n, a, b) {
             return Err(refusal);
         }

@@ -7,5 +7,5 @@ mod map;
 mod reading;
 
 pub use draft::Draft;
-pub use drafting::{map_of, pair_fault};
+pub use drafting::map_of;
 pub use map::Map;

@@ -2,7 +2,7 @@ ghost use Rattle.std.specs.Prelude.{◌≤◌};
 ghost use Rattle.maps.specs.Touch.{Mutual, Inside};
 
 // A sealed map of n regions: row i has digit j where i and j touch. It takes no further pair.
-// No heap: there is a row for each region that a map can have.
+// There is a row for each region that a map can have, so that it is of a fixed size.
 #[derive(Clone, Copy)]
 pub struct Map {
     pub(crate) n: u32,

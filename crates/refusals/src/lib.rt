@@ -4,6 +4,7 @@
 ghost use Rattle.std.specs.Prelude.{◌≡◌, Some};
 ghost use Rattle.std.specs.Option.{option_map};
 ghost use Rattle.refusals.specs.Numbers.{number_of, layer_of, layer_number};
+ghost use Rattle.refusals.specs.Stand.{NumbersStand};
 ghost use Rattle.refusals.specs.Words.{refusal_text};
 
 mod layer;
@@ -66,6 +67,12 @@ impl Refusal {
         }
     }
 }
+
+// The refusals have the numbers 1 to 15; of a sheet's faults 9, 10 and 15 have layer 1, 11 and 14 layer 2,
+// and 12 and 13 layer 3.
+pub fn numbers_stand()
+    ensures { NumbersStand }
+{}
 
 impl fmt::Display for Refusal {
     ghost output = { λ refusal. Some (refusal_text refusal) };

@@ -32,7 +32,7 @@ use Rattle.sheets.specs.Faults.{
 }
 use Rattle.sheets.specs.Laws.{FirstFault, Refusing}
 use Rattle.sheets.specs.Order.{follows, stopped}
-use Rattle.sheets.specs.Reading.{Wanted, at_line, most_bytes, after_bytes, at_end, wanted_by, faulted, read_from, read_all}
+use Rattle.sheets.specs.Reading.{Wanted, at_line, most_bytes, at_end, wanted_by, faulted, read_from, read_all}
 use Rattle.sheets.specs.Settings.{
   Settings,
   Topic,
@@ -56,7 +56,7 @@ use Rattle.maps.proofs.Results.{same_ok, clash}
 use Rattle.maps.proofs.Tables.{begun_is}
 use Rattle.sheets.proofs.Accepts.{pair_set, pair_unset, read_short, read_long}
 use Rattle.sheets.proofs.Sequence.{never_again, no_true}
-use Rattle.sheets.proofs.Steps.{in_place, out_of_place, bytes_stopped, bytes_bad, bytes_good, read_on, read_fault}
+use Rattle.sheets.proofs.Steps.{in_place, out_of_place, settled, bytes_stopped, bytes_bad, bytes_good, read_on, read_fault}
 
 -- ---- the fault of one line, from what the settings know of the lines before
 
@@ -180,7 +180,7 @@ kind_text (Stop m) = refl
 kind_good : (l : List ℕ) (x : Line) → line_of l ≡ Ok x → kind_at l ≡ Some (kind_of_line x)
 kind_good l x e = ap kind_at ((spells l x).0 e).1 ∙ kind_text x
 
-bytes_fault_of : (s : Settings) (l : List ℕ) → refused (after_bytes s l)
+bytes_fault_of : (s : Settings) (l : List ℕ) → refused (settled s l)
     ≡ judged s.last (topic_size s.topic) (topic_polygon s.topic) (kind_at l) (value_of l)
 bytes_fault_of s l = go (stopped s.last) refl (line_of l) refl
   where
@@ -209,7 +209,7 @@ bytes_fault_of s l = go (stopped s.last) refl (line_of l) refl
         ∙ sym (cond-false (not (is_some (kind_at l))) _ _ (ap not w.1) ∙ cond-true (not (is_some (value_of l))) _ _ (ap (λ r. not (is_some (result_ok r))) e))
 
     go : (t : Bool) → stopped s.last ≡ t → (v : Result Line Refusal) → line_of l ≡ v
-        → refused (after_bytes s l) ≡ by (stopped s.last)
+        → refused (settled s l) ≡ by (stopped s.last)
     go true f v g = ap refused (bytes_stopped s l f) ∙ sym (ap by f)
     go false f (Err k) g = ap refused (bytes_bad s l k f g) ∙ bad k g (bad_line l k g) ∙ sym (ap by f)
     go false f (Ok x) g =
@@ -217,7 +217,7 @@ bytes_fault_of s l = go (stopped s.last) refl (line_of l) refl
         ∙ ap (λ r. open' (Some (kind_of_line x)) (result_ok r)) (sym g) ∙ ap (λ o. open' o (value_of l)) (sym (kind_good l x g)) ∙ sym (ap by f)
 
 linked_fault : (before : List (List ℕ)) (s : Settings) (l : List ℕ) → Linked before s
-    → fault_at before (whole l) ≡ refused (after_bytes s l)
+    → fault_at before (whole l) ≡ refused (settled s l)
 linked_fault before s l k =
     whole_fault before l
     ∙ ap (λ j. judged j (size_in (line_one before)) (polygon_in (line_one before)) (kind_at l) (value_of l)) (sym k.last_is)
@@ -342,7 +342,7 @@ abbrev Taken : Settings → Settings → List ℕ → Type 0
 Taken s t l =
     (x : Line) × (line_of l ≡ Ok x) × (follows s.last (kind_of_line x) ≡ true) × (set_by s x ≡ Ok t)
 
-taken : (s t : Settings) (l : List ℕ) → after_bytes s l ≡ Ok t → Taken s t l
+taken : (s t : Settings) (l : List ℕ) → settled s l ≡ Ok t → Taken s t l
 taken s t l e = go (stopped s.last) refl (line_of l) refl
   where
     place : (x : Line) → line_of l ≡ Ok x → after_line s x ≡ Ok t → (b : Bool) → follows s.last (kind_of_line x) ≡ b → Taken s t l
@@ -354,7 +354,7 @@ taken s t l e = go (stopped s.last) refl (line_of l) refl
     go false f (Err k) g = clash t k (sym (bytes_bad s l k f g) ∙ e)
     go false f (Ok x) g = place x g (sym (bytes_good s l x f g) ∙ e) (follows s.last (kind_of_line x)) refl
 
-linked_next : (before : List (List ℕ)) (s t : Settings) (l : List ℕ) → Linked before s → after_bytes s l ≡ Ok t
+linked_next : (before : List (List ℕ)) (s t : Settings) (l : List ℕ) → Linked before s → settled s l ≡ Ok t
     → Linked (before ++ (l ∷ [])) t
 unfolding last_kind
 linked_next before s t l k e = go before k (taken s t l e)
@@ -472,11 +472,11 @@ located before [] r n s f k e h = go (at_end s r) refl h
         let same : at_line c n ≡ f = cc in
         here_now before [] r n c f e same (fault_zero before [] r (broken r) refl ∙ end_fault before s r k ∙ ap refused g)
 located before (l ∷ ls) r n s f k e h =
-    go (after_bytes s l) refl
+    go (settled s l) refl
     (λ t a. located (before ++ (l ∷ [])) ls r (n + 1) t f (linked_next before s t l k a)
     (let long = length-append before (l ∷ []) in omega arith))
   where
-    later : (t : Settings) → after_bytes s l ≡ Ok t → Located (before ++ (l ∷ [])) ls r f → Located before (l ∷ ls) r f
+    later : (t : Settings) → settled s l ≡ Ok t → Located (before ++ (l ∷ [])) ls r f → Located before (l ∷ ls) r f
     later t a (j, line, within, here, none) = (
       suc j,
       (let long = length-append before (l ∷ []) in omega arith),
@@ -486,18 +486,18 @@ located before (l ∷ ls) r n s f k e h =
     )
       where
         first : (i : ℕ) → i < suc j → fault_of before (l ∷ ls) r i ≡ None
-        first zero lt = fault_zero before (l ∷ ls) r (whole l) refl ∙ linked_fault before s l k ∙ refused_ok (after_bytes s l) t a
+        first zero lt = fault_zero before (l ∷ ls) r (whole l) refl ∙ linked_fault before s l k ∙ refused_ok (settled s l) t a
         first (suc i) lt = sym (fault_suc before ls l r i) ∙ none i (omega arith)
 
-    go : (a : Result Settings Refusal) → after_bytes s l ≡ a
-        → ((t : Settings) → after_bytes s l ≡ Ok t → read_from (n + 1) t ls r ≡ Err f → Located (before ++ (l ∷ [])) ls r f)
+    go : (a : Result Settings Refusal) → settled s l ≡ a
+        → ((t : Settings) → settled s l ≡ Ok t → read_from (n + 1) t ls r ≡ Err f → Located (before ++ (l ∷ [])) ls r f)
         → Located before (l ∷ ls) r f
     go (Ok t) g rest = later t g (rest t g (sym (read_on n s l ls r t g) ∙ h))
     go (Err c) g rest =
         let same : ◌≡◌ {A = Result Wanted Fault} (Err (at_line c n)) (Err f) = sym (read_fault n s l ls r c g) ∙ h in
         let is : at_line c n ≡ f = cc in
         here_now before (l ∷ ls) r n c f e is
-        (fault_zero before (l ∷ ls) r (whole l) refl ∙ linked_fault before s l k ∙ refused_err (after_bytes s l) c g)
+        (fault_zero before (l ∷ ls) r (whole l) refl ∙ linked_fault before s l k ∙ refused_err (settled s l) c g)
 
 -- an accepted sheet has no fault at any line
 unfaulted : (before ls : List (List ℕ)) (r : List ℕ) (n : ℕ) (s : Settings) (w : Wanted) → Linked before s
@@ -513,15 +513,15 @@ unfaulted before [] r n s w k h i le = go (at_end s r) refl h
         ap (λ j. fault_of before [] r j) zero_is ∙ fault_zero before [] r (broken r) refl ∙ end_fault before s r k ∙ ap refused g
     go (Err c) g h' = clash w _ h'
 unfaulted before (l ∷ ls) r n s w k h i le =
-    go (after_bytes s l) refl (λ t a. unfaulted (before ++ (l ∷ [])) ls r (n + 1) t w (linked_next before s t l k a)) i le
+    go (settled s l) refl (λ t a. unfaulted (before ++ (l ∷ [])) ls r (n + 1) t w (linked_next before s t l k a)) i le
   where
-    at : (t : Settings) → after_bytes s l ≡ Ok t → ((i : ℕ) → i ≤ length ls → fault_of (before ++ (l ∷ [])) ls r i ≡ None)
+    at : (t : Settings) → settled s l ≡ Ok t → ((i : ℕ) → i ≤ length ls → fault_of (before ++ (l ∷ [])) ls r i ≡ None)
         → (i : ℕ) → i ≤ suc (length ls) → fault_of before (l ∷ ls) r i ≡ None
-    at t a rest zero le = fault_zero before (l ∷ ls) r (whole l) refl ∙ linked_fault before s l k ∙ refused_ok (after_bytes s l) t a
+    at t a rest zero le = fault_zero before (l ∷ ls) r (whole l) refl ∙ linked_fault before s l k ∙ refused_ok (settled s l) t a
     at t a rest (suc i) le = sym (fault_suc before ls l r i) ∙ rest i (omega arith)
 
-    go : (a : Result Settings Refusal) → after_bytes s l ≡ a
-        → ((t : Settings) → after_bytes s l ≡ Ok t → read_from (n + 1) t ls r ≡ Ok w
+    go : (a : Result Settings Refusal) → settled s l ≡ a
+        → ((t : Settings) → settled s l ≡ Ok t → read_from (n + 1) t ls r ≡ Ok w
         → (i : ℕ) → i ≤ length ls → fault_of (before ++ (l ∷ [])) ls r i ≡ None)
         → (i : ℕ) → i ≤ suc (length ls) → fault_of before (l ∷ ls) r i ≡ None
     go (Ok t) g rest = at t g (rest t g (sym (read_on n s l ls r t g) ∙ h))

@@ -2,13 +2,12 @@
 use Rattle.std.proofs.Common.{◌≡◌, ℕ, ◌+◌, ◌-◌, ◌<◌, ◌≤◌, Bool, true, false, cond, ltb, List, ◌∷◌, length, take, drop, Some, None, Ok, Err, Option, Result, sym, refl, ap, ◌∙◌, arith, length-drop, length-take}
 use Rattle.std.proofs.lemmas.List.{take_rest}
 use Rattle.std.proofs.lemmas.Bool.{ltb-true, ltb-false, cond-true, cond-false}
-use Rattle.refusals.specs.declared.Refusal.{Refusal}
 use Rattle.sheets.specs.Cut.{Cut, cut, line_length}
-use Rattle.sheets.specs.Reading.{Wanted, at_line, after_bytes, at_end, faulted, read_from}
+use Rattle.sheets.specs.Reading.{Wanted, after_bytes, at_end, faulted, read_from}
 use Rattle.sheets.specs.Settings.{Settings}
 use Rattle.sheets.specs.declared.fault.Fault.{Fault}
 use Rattle.sheets.proofs.Cuts.{cut_more, cut_none}
-use Rattle.sheets.proofs.Steps.{read_on, read_fault}
+use Rattle.sheets.proofs.Steps.{read_next, read_ended}
 
 abbrev Found : List ℕ → Option ℕ
 Found bs = cond (ltb (line_length bs) (length bs)) (Some (line_length bs)) None
@@ -33,15 +32,6 @@ missing bs e = go (ltb (line_length bs) (length bs)) refl
         cc
     go false f = ltb-false (line_length bs) (length bs) f
 
-pub faulted_ok : {X : Type 0} (a : Result X Refusal) (n : ℕ) (x : X) → Ok x ≡ faulted a n → a ≡ Ok x
-faulted_ok (Ok y) n x e = cc
-faulted_ok {X} (Err k) n x e = cc
-
-pub faulted_err : {X : Type 0} (a : Result X Refusal) (n : ℕ) (f : Fault) → Err f ≡ faulted a n
-    → (k : Refusal) × (a ≡ Err k) × (f ≡ at_line k n)
-faulted_err {X} (Ok y) n f e = cc
-faulted_err (Err k) n f e = (k, refl, cc)
-
 module _ (number : ℕ) (s : Settings) (rest : List ℕ) (all : Result Wanted Fault)
     (so_far : read_from number s (cut rest).lines (cut rest).rest ≡ all) where
   -- the line that the code cuts off and what it leaves
@@ -58,21 +48,19 @@ module _ (number : ℕ) (s : Settings) (rest : List ℕ) (all : Result Wanted Fa
     here : read_from number s (take n rest ∷ (cut (drop (n + 1) rest)).lines) (cut (drop (n + 1) rest)).rest ≡ all
     here = ap (λ (c : Cut). read_from number s c.lines c.rest) (sym cut-here) ∙ so_far
 
-    pub turn_on : (t : Settings) → Ok t ≡ faulted (after_bytes s (take (n - 0) rest)) number
+    pub turn_on : (t : Settings) → Ok t ≡ after_bytes s (take (n - 0) rest) number
         → read_from (number + 1) t (cut (take (length rest - (n + 1)) (drop (n + 1) rest))).lines
         (cut (take (length rest - (n + 1)) (drop (n + 1) rest))).rest ≡ all
     turn_on t e =
         ap (λ r. read_from (number + 1) t (cut r).lines (cut r).rest) (take_rest rest (n + 1))
-        ∙ sym (read_on number s (take n rest) (cut (drop (n + 1) rest)).lines (cut (drop (n + 1) rest)).rest t
-        (ap (after_bytes s) (sym whole-line) ∙ faulted_ok _ number t e))
+        ∙ sym (read_next number s (take n rest) (cut (drop (n + 1) rest)).lines (cut (drop (n + 1) rest)).rest t
+        (ap (λ l. after_bytes s l number) (sym whole-line) ∙ sym e))
         ∙ here
 
-    pub turn_fault : (f : Fault) → Err f ≡ faulted (after_bytes s (take (n - 0) rest)) number → Err f ≡ all
+    pub turn_fault : (f : Fault) → Err f ≡ after_bytes s (take (n - 0) rest) number → Err f ≡ all
     turn_fault f e =
-        let g = faulted_err _ number f e in
-        ap Err g.2
-        ∙ sym (read_fault number s (take n rest) (cut (drop (n + 1) rest)).lines (cut (drop (n + 1) rest)).rest g.0
-        (ap (after_bytes s) (sym whole-line) ∙ g.1))
+        sym (read_ended number s (take n rest) (cut (drop (n + 1) rest)).lines (cut (drop (n + 1) rest)).rest f
+        (ap (λ l. after_bytes s l number) (sym whole-line) ∙ sym e))
         ∙ here
 
     pub turn_less : 1 + length (take (length rest - (n + 1)) (drop (n + 1) rest)) ≤ length rest

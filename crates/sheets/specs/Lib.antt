@@ -2,6 +2,7 @@ pub mod Order
 pub mod Cut
 pub mod Settings
 pub mod Reading
+pub mod Taking
 pub mod Written
 pub mod Faults
 pub mod Laws

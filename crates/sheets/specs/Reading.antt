@@ -3,7 +3,7 @@ use Rattle.std.specs.Prelude.{ℕ, ◌+◌, true, false, List, [], ◌∷◌, le
 use Rattle.std.specs.Option.{unwrap_or}
 use Rattle.refusals.specs.declared.Refusal.{Refusal}
 use Rattle.refusals.specs.declared.Refusal.TheVariants.{LineOrder, SheetShort, SheetLong}
-use Rattle.items.specs.Lines.{line_of}
+use Rattle.items.specs.Faults.{line_read}
 use Rattle.sheets.specs.Cut.{cut}
 use Rattle.sheets.specs.Order.{stopped}
 use Rattle.sheets.specs.Settings.{Settings, Topic, unset, height_of, after_line}
@@ -26,12 +26,21 @@ pub record Wanted : Type 0 where
 abbrev pub at_line : Refusal → ℕ → Fault
 at_line k n = record { refusal = k; line = n }
 
--- the settings after the bytes of one finished line: behind the full stop nothing may stand
-unfoldable pub after_bytes : Settings → List ℕ → Result Settings Refusal
-after_bytes s l =
+abbrev pub faulted : {X : Type 0} → Result X Refusal → ℕ → Result X Fault
+faulted (Ok x) n = Ok x
+faulted (Err k) n = Err (at_line k n)
+
+-- the settings after the bytes of the finished line of that number. A fault of a line that is read has the line
+-- of its place: what is wrong with the bytes stands at the item at fault, what is wrong with the line at its letter.
+-- Behind the full stop nothing may stand, and no line is read: the fault has the line's number
+unfoldable pub after_bytes : Settings → List ℕ → ℕ → Result Settings Fault
+after_bytes s l n =
     elim (stopped s.last) [
-      | true ↦ Err LineOrder
-      | false ↦ elim (line_of l) [ Ok x ↦ after_line s x | Err k ↦ Err k ]
+      | true ↦ Err (at_line LineOrder n)
+      | false ↦ elim (line_read l n) [
+        | Ok x ↦ faulted (after_line s x.value) x.place.line
+        | Err k ↦ Err (at_line k.value k.place.line)
+      ]
     ]
 
 -- without a C line the cap is the subject's height
@@ -44,14 +53,9 @@ abbrev pub at_end : Settings → List ℕ → Result Wanted Refusal
 at_end s [] = elim (stopped s.last) [ true ↦ wanted_by s s.topic | false ↦ Err SheetShort ]
 at_end s (b ∷ r) = elim (stopped s.last) [ true ↦ Err LineOrder | false ↦ Err SheetShort ]
 
-abbrev pub faulted : {X : Type 0} → Result X Refusal → ℕ → Result X Fault
-faulted (Ok x) n = Ok x
-faulted (Err k) n = Err (at_line k n)
-
 unfoldable pub read_from : ℕ → Settings → List (List ℕ) → List ℕ → Result Wanted Fault
 read_from n s [] r = faulted (at_end s r) n
-read_from n s (l ∷ ls) r =
-    elim (after_bytes s l) [ Ok t ↦ read_from (n + 1) t ls r | Err k ↦ Err (at_line k n) ]
+read_from n s (l ∷ ls) r = elim (after_bytes s l n) [ Ok t ↦ read_from (n + 1) t ls r | Err f ↦ Err f ]
 
 -- the sheet's plan, or its first fault
 unfoldable pub read_all : List ℕ → Result Wanted Fault

@@ -1,14 +1,26 @@
 ghost use Rattle.std.specs.Prelude.{◌≡◌, Some};
 ghost use Rattle.std.specs.Option.{unwrap_or};
 ghost use Rattle.refusals.specs.Numbers.{number_of, layer_of};
+ghost use Rattle.sheets.specs.Reading.{at_line};
 ghost use Rattle.sheets.specs.Told.{fault_words};
 
 use super::fault::Fault;
-use refusals::Layer;
+use items::Place;
+use refusals::{Layer, Refusal};
 use std::error::Error;
 use std::fmt;
 
 impl Fault {
+    // At the line of that place.
+    pub(crate) fn at(refusal: Refusal, place: Place) -> Self
+        ensures { result ≡ at_line refusal place.line }
+    {
+        Fault {
+            refusal,
+            line: place.line,
+        }
+    }
+
     pub fn number(&self) -> u8
         ensures { result ≡ number_of self.now.refusal }
     {

@@ -40,7 +40,7 @@ fn finish(state: State, rest: &[u8]) -> Result<Plan, Refusal>
     plan(state)
 }
 
-// Reads line after line, and what follows the last; its fault stands at the line that would come next.
+// Reads line after line, and what follows the last.
 fn read_lines(bytes: &[u8]) -> Result<Plan, Fault>
     requires { length bytes.now ≤ 65536 }
     ensures { through plan_of result ≡ read_from 1 unset (cut bytes.now).lines (cut bytes.now).rest }
@@ -51,12 +51,11 @@ fn read_lines(bytes: &[u8]) -> Result<Plan, Fault>
     // cut by two slices: a shared part of a line would have to lie in items, which has no use of it
     let mut line = 1u32;
     while let Some(n) = line_length(rest) {
-        state = state
-            .after_bytes(&rest[0..n], line)
-            .map_err(|refusal| Fault { refusal, line })?;
+        state = state.after_bytes(&rest[0..n], line)?;
         rest = &rest[n + 1..];
         line += 1;
     }
+    // what is wrong behind the finished lines is wrong at the line that would come next
     finish(state, rest).map_err(|refusal| Fault { refusal, line })
 }
 

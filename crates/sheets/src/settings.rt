@@ -5,6 +5,7 @@ ghost use Rattle.sheets.specs.Reading.{after_bytes};
 ghost use Rattle.sheets.specs.Settings.{unset, regions_with, polygon_with, pair_after, counted as countedBy, set_by, after_line};
 ghost use Rattle.sheets.specs.Views.{topic_of, state_of};
 
+use super::fault::Fault;
 use super::order::{follows, stopped};
 use super::plan::Subject;
 use super::state::State;
@@ -91,15 +92,19 @@ impl State {
         self.set_by(line)
     }
 
-    // The bytes of one finished line more; behind the full stop nothing may stand.
+    // The bytes of the finished line of that number more; behind the full stop nothing may stand.
     #[tactic(auto, unfolding(crate::specs::Reading::after_bytes))]
-    pub(crate) fn after_bytes(self, bytes: &[u8], number: u32) -> Result<State, Refusal>
-        ensures { through state_of result ≡ after_bytes (state_of self) bytes.now }
+    pub(crate) fn after_bytes(self, bytes: &[u8], number: u32) -> Result<State, Fault>
+        ensures { through state_of result ≡ after_bytes (state_of self) bytes.now number }
     {
         if stopped(self.last) {
-            return Err(Refusal::LineOrder);
+            return Err(Fault {
+                refusal: Refusal::LineOrder,
+                line: number,
+            });
         }
-        let line = read_line(bytes, number)?;
-        self.after_line(line)
+        let line = read_line(bytes, number).map_err(|fault| Fault::at(fault.value, fault.place))?;
+        self.after_line(line.value)
+            .map_err(|refusal| Fault::at(refusal, line.place))
     }
 }
