@@ -1,3 +1,4 @@
 pub mod RoundTrip
 pub mod Writes
 pub mod Opens
+pub mod Told

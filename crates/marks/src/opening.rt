@@ -1,6 +1,7 @@
 //! Opening a mark block.
 ghost use Rattle.std.specs.Prelude.{◌≡◌, ◌≤◌, IfOk};
 ghost use Rattle.marks.specs.Opening.{checks, size_in, size_fits, judged, opened, moved_to};
+ghost use Rattle.marks.specs.Told.{Told};
 
 use crate::checking::{BLOCK, BODY, all_zero, check_of};
 use crate::head::{HEAD, edition};
@@ -40,12 +41,14 @@ fn judge(edition: u8, job: u32, block: &[u8; BLOCK]) -> Result<usize, Refusal>
     Ok(size)
 }
 
-// Makes the block's object current. A refusal changes nothing.
+// Makes the block's object current. A refusal changes nothing, and no call of step is made.
 pub fn open_block<O: Coded>(oracle: &mut O, job: u32, block: &[u8]) -> Result<(), Refusal>
     requires { O.Walking.sound oracle.old }
     ensures sound { O.Walking.sound oracle.new }
     ensures setup { O.Walking.setup oracle.new ≡ O.Walking.setup oracle.old }
     ensures moved { (result, O.Walking.current oracle.new) ≡ moved_to (O.Walking.current oracle.old) (opened job (O.Walking.setup oracle.old) block.now) }
+    ensures called { O.Walking.calls oracle.new ≡ O.Walking.calls oracle.old }
+    ensures told { Told job (O.Walking.setup oracle.old) block.now (opened job (O.Walking.setup oracle.old) block.now) }
 {
     let block = block.as_array().ok_or(Refusal::BlockSize)?;
     let size = judge(edition(oracle), job, block)?;

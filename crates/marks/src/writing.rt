@@ -1,7 +1,8 @@
 //! Writing a mark block.
-ghost use Rattle.std.specs.Prelude.{◌≡◌, Ok};
+ghost use Rattle.std.specs.Prelude.{◌≡◌, Ok, OnErr};
 ghost use Rattle.marks.specs.Layout.{block, marked};
 ghost use Rattle.marks.specs.Opening.{opened};
+ghost use Rattle.marks.specs.Told.{Laid};
 
 use crate::checking::{BLOCK, BODY, check_of};
 use crate::head::{HEAD, head};
@@ -26,7 +27,9 @@ fn block<O: Coded>(oracle: &O, job: u32) -> [u8; BLOCK]
 pub fn write_block<O: Coded>(oracle: &O, job: u32, buffer: &mut [u8]) -> Result<(), Refusal>
     requires { O.Walking.sound oracle.now }
     ensures written { (result, buffer.new) ≡ marked job (O.Walking.setup oracle.now) (O.Walking.current oracle.now) buffer.old }
+    ensures refused { OnErr result (buffer.new ≡ buffer.old) }
     ensures opens { opened job (O.Walking.setup oracle.now) (block job (O.Walking.setup oracle.now) (O.Walking.current oracle.now)) ≡ Ok (O.Walking.current oracle.now) }
+    ensures laid { Laid job (O.Walking.setup oracle.now) (O.Walking.current oracle.now) (block job (O.Walking.setup oracle.now) (O.Walking.current oracle.now)) }
 {
     // as in the other writers of codes and blocks: one function over the size would be no shorter
     let front = buffer.first_chunk_mut().ok_or(Refusal::BufferShort)?;

@@ -13,5 +13,9 @@ pub mod Landing
 pub mod Counts
 pub mod HomeChain
 pub mod Crossing
+pub mod Ticks
+pub mod StepsHome
+pub mod Homing
 pub mod Progress
 pub mod Turns
+pub mod Limits

@@ -9,3 +9,4 @@ pub mod Places
 pub mod Statements
 pub mod Calls
 pub mod Outcomes
+pub mod Limits

@@ -1,5 +1,5 @@
 -- What a walk answers and leaves.
-use Rattle.std.specs.Prelude.{ℕ, ◌+◌, min, Some, None, Option}
+use Rattle.std.specs.Prelude.{ℕ, zero, suc, ◌+◌, min, Some, None, Option}
 use Rattle.oracle.specs.Places.{place, objects}
 use Rattle.oracle.specs.Setup.{Code, Setup, Slot, vacant, filled}
 use Rattle.oracle.specs.Walk.{Spot, on, past}
@@ -13,6 +13,11 @@ ceiling = 18446744073709551615
 -- A count that stays at the ceiling once it is there.
 abbrev pub counted : ℕ → ℕ
 counted n = min n ceiling
+
+-- A count that goes on n times.
+unfoldable pub ticks : (ℕ → ℕ) → ℕ → ℕ → ℕ
+ticks tick zero x = x
+ticks tick (suc n) x = tick (ticks tick n x)
 
 -- The answer of a walk that stops at a spot, and the current object then.
 abbrev pub rested : Setup → Spot → Reached × Code

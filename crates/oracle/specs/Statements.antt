@@ -2,7 +2,7 @@
 use Rattle.std.specs.Prelude.{◌≡◌, ℕ, ◌+◌, ◌*◌, ◌<◌, ◌≤◌, List, ◌∷◌, length, Some, None, ◌≢◌}
 use Rattle.std.specs.List.{flat_map}
 use Rattle.oracle.specs.Counting.{Enumerates, total, filled_of}
-use Rattle.oracle.specs.Home.{ancestor}
+use Rattle.oracle.specs.Home.{ancestor, steps_home}
 use Rattle.oracle.specs.Laws.{Object}
 use Rattle.oracle.specs.Listing.{children, list_of, listing}
 use Rattle.oracle.specs.Places.{at, place, objects, filled_slots}
@@ -53,3 +53,9 @@ Numbered s = (xs : List Code) → Enumerates s xs → (length xs ≡ objects s) 
 -- Stepping home reaches the root, at the latest after as many steps as the rank says.
 abbrev pub HomeChain : Setup → Type 0
 HomeChain s = (v : Code) → Object s v → (n : ℕ) × (n ≤ s.rank v) × (ancestor s n v ≡ s.root)
+
+-- How many steps home there are: so many reach the root, no fewer do, and the rank bounds them.
+pub record StepsHome (s : Setup) : Type 0 where
+  pub reaches : (v : Code) → Object s v → ancestor s (steps_home s v) v ≡ s.root
+  pub no_sooner : (v : Code) (m : ℕ) → Object s v → m < steps_home s v → ancestor s m v ≢ s.root
+  pub within_rank : (v : Code) → Object s v → steps_home s v ≤ s.rank v

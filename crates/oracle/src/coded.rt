@@ -5,7 +5,8 @@ ghost use Rattle.oracle.specs.Calls.{written, taken};
 use crate::walking::Walking;
 use refusals::Refusal;
 
-// The most bytes of a code. Codes are held in memory of this size, since there is no heap.
+// The most bytes of a code. A code is held in an array of this size: taking an object has no answer for want of
+// memory, so that what it needs is of a fixed size.
 pub const MOST_SIZE: usize = 480;
 
 pub trait Coded: Walking {
@@ -23,5 +24,6 @@ pub trait Coded: Walking {
         requires { Self.Walking.sound self.old }
         ensures sound { Self.Walking.sound self.new }
         ensures setup { Self.Walking.setup self.new ≡ Self.Walking.setup self.old }
-        ensures moved { (result, Self.Walking.current self.new) ≡ taken (Self.Walking.setup self.old) (Self.Walking.current self.old) row.now };
+        ensures moved { (result, Self.Walking.current self.new) ≡ taken (Self.Walking.setup self.old) (Self.Walking.current self.old) row.now }
+        ensures called { Self.Walking.calls self.new ≡ Self.Walking.calls self.old };
 }

@@ -14,6 +14,7 @@ pub(crate) fn cross<O: Walking>(oracle: &mut O, slot: usize, steps: &mut u64) ->
     ensures setup { O.Walking.setup oracle.new ≡ O.Walking.setup oracle.old }
     ensures crossed { (result, O.Walking.current oracle.new) ≡ across (O.Walking.current oracle.old) ((O.Walking.setup oracle.old).slot (O.Walking.current oracle.old) slot) }
     ensures counted { steps.new ≡ counted (steps.old + 1) }
+    ensures called { O.Walking.calls oracle.new ≡ O.Walking.tick (O.Walking.calls oracle.old) }
 {
     *steps = steps.saturating_add(1);
     oracle.step(slot).unwrap_or(None)
@@ -36,6 +37,7 @@ pub(crate) fn rise<O: Walking>(oracle: &mut O, home: usize, steps: &mut u64) -> 
     ensures setup { O.Walking.setup oracle.new ≡ O.Walking.setup oracle.old }
     ensures risen { (O.Walking.setup oracle.old).slot (O.Walking.current oracle.old) home ≡ filled (O.Walking.current oracle.new) result }
     ensures counted { steps.new ≡ counted (steps.old + 1) }
+    ensures called { O.Walking.calls oracle.new ≡ O.Walking.tick (O.Walking.calls oracle.old) }
 {
     cross(oracle, home, steps).unwrap()
 }

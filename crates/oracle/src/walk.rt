@@ -1,7 +1,7 @@
 //! The walk over any oracle.
 ghost use Rattle.std.specs.Prelude.{◌≡◌, ◌+◌};
 ghost use Rattle.oracle.specs.Places.{place};
-ghost use Rattle.oracle.specs.Outcomes.{counted, landing, rested};
+ghost use Rattle.oracle.specs.Outcomes.{counted, landing, rested, ticks};
 ghost use Rattle.oracle.specs.Walk.{walk_from};
 
 use crate::moves::{cross, leads_home, rise};
@@ -17,6 +17,7 @@ pub fn walk<O: Walking>(oracle: &mut O, from: usize) -> Outcome
     ensures setup { O.Walking.setup oracle.new ≡ O.Walking.setup oracle.old }
     ensures stopped { (result.reached, O.Walking.current oracle.new) ≡ rested (O.Walking.setup oracle.old) (walk_from (O.Walking.setup oracle.old) (O.Walking.current oracle.old) from).stop }
     ensures counted { result.steps ≡ counted (walk_from (O.Walking.setup oracle.old) (O.Walking.current oracle.old) from).steps }
+    ensures called { O.Walking.calls oracle.new ≡ ticks O.Walking.tick (walk_from (O.Walking.setup oracle.old) (O.Walking.current oracle.old) from).steps (O.Walking.calls oracle.old) }
     ensures next { from ≡ 0 → landing (O.Walking.setup oracle.old) result.reached (O.Walking.current oracle.new) ≡ place (O.Walking.setup oracle.old) (O.Walking.current oracle.old) + 1 }
 {
     let width = oracle.width();

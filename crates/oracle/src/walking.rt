@@ -1,5 +1,5 @@
 //! The walking interface: what a walk over the objects needs.
-ghost use Rattle.std.specs.Prelude.{◌≡◌};
+ghost use Rattle.std.specs.Prelude.{◌≡◌, ℕ};
 ghost use Rattle.oracle.specs.Calls.{stepped};
 ghost use Rattle.oracle.specs.Laws.{Object, Lawful};
 ghost use Rattle.oracle.specs.Setup.{Code, Setup};
@@ -12,7 +12,17 @@ pub trait Walking {
 
     ghost current: { Self → Code };
 
-    // the premise of every call, a rule of the project: making gives it, and each call keeps it
+    // how many calls of step it has had, refused ones among them, as an oracle that counts them says; one
+    // that does not says nothing
+    ghost calls: { Self → ℕ } = { λ _. 0 };
+
+    // What one more call makes of that count. It is a function, and not the number to be added, so that a count
+    // which the running program keeps, and which stops at a ceiling, is one too. What is proved over every
+    // oracle then binds each walk to its number of calls: generic code cannot tell implementations apart, and
+    // one that does count might be the one that it is given.
+    ghost tick: { ℕ → ℕ } = { λ n. n };
+
+    // the premise of every call: making gives it, and each call keeps it
     ghost sound: { Self → Type 0 };
 
     ghost lawful: { (x : Self) → sound x → Lawful (setup x) };
@@ -43,5 +53,6 @@ pub trait Walking {
         requires { sound self.old }
         ensures sound { sound self.new }
         ensures setup { setup self.new ≡ setup self.old }
-        ensures moved { (result, current self.new) ≡ stepped (setup self.old) (current self.old) slot };
+        ensures moved { (result, current self.new) ≡ stepped (setup self.old) (current self.old) slot }
+        ensures called { calls self.new ≡ tick (calls self.old) };
 }

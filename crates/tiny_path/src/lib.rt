@@ -1,7 +1,8 @@
 //! A path of three objects: the smallest oracle in which two slots lead to one child.
 #![tactic(auto)]
 
-ghost use Rattle.std.specs.Prelude.{◌≡◌, ◌<◌};
+ghost use Rattle.std.specs.Prelude.{◌≡◌, ℕ, ◌<◌, ◌+◌, min};
+ghost use Rattle.oracle.specs.Outcomes.{counted};
 ghost use Rattle.tiny_path.specs.Laws.{path_lawful, path_stands};
 ghost use Rattle.tiny_path.specs.Listed.{Listed};
 ghost use Rattle.tiny_path.specs.Setup.{code, path};
@@ -22,8 +23,8 @@ const HEIGHT: u32 = OBJECTS as u32 - 1;
 
 const SIZE: usize = 1;
 
-// The path, standing at one of its objects, and how often it was told to step: no contract can hold a walk
-// to that number, so a test does.
+// The path, standing at one of its objects, and how many calls of step it has had; the count stays at the
+// greatest u64 once it is there.
 #[derive(Clone, Copy)]
 pub struct TinyPath {
     at: u8,
@@ -33,7 +34,11 @@ pub struct TinyPath {
 
 impl TinyPath {
     pub fn new() -> TinyPath
-        ensures { code result.at ≡ path.root }
+        ensures sound { ⟦<TinyPath as Walking>⟧.sound result }
+        ensures setup { ⟦<TinyPath as Walking>⟧.setup result ≡ path }
+        ensures current { ⟦<TinyPath as Walking>⟧.current result ≡ path.root }
+        ensures calls { ⟦<TinyPath as Walking>⟧.calls result ≡ 0 }
+        ensures tick { (n : ℕ) → ⟦<TinyPath as Walking>⟧.tick n ≡ min (n + 1) 18446744073709551615 }
     {
         TinyPath { at: 0, calls: 0 }
     }
@@ -48,6 +53,10 @@ impl Walking for TinyPath {
     ghost setup = { λ _. path };
 
     ghost current = { λ x. code x.at };
+
+    ghost calls = { λ x. x.calls };
+
+    ghost tick = { λ n. counted (n + 1) };
 
     ghost sound = { λ _. Unit {0} };
 

@@ -1,5 +1,6 @@
 use Rattle.std.proofs.Common.{ltb, length, refl, ap, ◌∙◌, arith}
 use Rattle.marks.proofs.RoundTrip.{round_trip}
+use Rattle.marks.proofs.Told.{laid}
 use Rattle.marks.proofs.Writes.{fronted}
 use Rattle.marks.proofs.writing.write_block.Goals as goal
 use Rattle.marks.specs.Layout.{placed}
@@ -21,3 +22,15 @@ returns-clause-opens g c =
     let W = g.O.Walking in
     let o = c.args.oracle.now in
     round_trip (W.setup o) (W.lawful o c.requires) (W.current o) (W.stands o c.requires) c.args.job (omega arith)
+
+pub returns-in_err-front-clause-laid : goal.returns-in_err-front-clause-laid
+returns-in_err-front-clause-laid g c =
+    let W = g.O.Walking in
+    let o = c.args.oracle.now in
+    laid (W.setup o) (W.lawful o c.requires) (W.current o) (W.stands o c.requires) c.args.job (omega arith)
+
+pub returns-clause-laid : goal.returns-clause-laid
+returns-clause-laid g c =
+    let W = g.O.Walking in
+    let o = c.args.oracle.now in
+    laid (W.setup o) (W.lawful o c.requires) (W.current o) (W.stands o c.requires) c.args.job (omega arith)
