@@ -48,11 +48,11 @@ module _ (s : Setup) (v : Code) (j : ℕ) where
       absurd (let z : ◌≡◌ {A = ℕ} 0 1 = cc in omega arith)
 
 -- the slot that leads above the cap is vacant
-kept_high : (c : ℕ) (s : Setup) (w : Code) (k : ℕ) → c < s.rank w → kept c s (filled w k) ≡ vacant
+pub kept_high : (c : ℕ) (s : Setup) (w : Code) (k : ℕ) → c < s.rank w → kept c s (filled w k) ≡ vacant
 unfolding kept
 kept_high c s w k h = cond-false (leb (s.rank w) c) (filled w k) vacant (lt-leb (s.rank w) c h)
 
-kept_vacant : (c : ℕ) (s : Setup) → kept c s vacant ≡ vacant
+pub kept_vacant : (c : ℕ) (s : Setup) → kept c s vacant ≡ vacant
 unfolding kept
 kept_vacant c s = refl
 

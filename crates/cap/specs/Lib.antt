@@ -1,2 +1,3 @@
 pub mod Capped
 pub mod Laws
+pub mod Cut

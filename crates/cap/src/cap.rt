@@ -1,6 +1,9 @@
 ghost use Rattle.std.specs.Prelude.{◌≡◌, ◌≤◌, nat_le};
 ghost use Rattle.cap.specs.Capped.{capped};
+ghost use Rattle.cap.specs.Cut.{Cut};
 ghost use Rattle.cap.specs.Laws.{cap_lawful, object_from};
+ghost use Rattle.oracle.specs.Home.{steps_home};
+ghost use Rattle.oracle.specs.Outcomes.{ticks};
 
 use oracle::coded::{Coded, MOST_SIZE};
 use oracle::home::go_home;
@@ -18,9 +21,11 @@ impl<O: Walking> Cap<O> {
     // Steps the oracle below home, and stands at its root.
     pub fn new(mut below: O, most: u32) -> Cap<O>
         requires { O.Walking.sound below }
-        ensures sound { O.Walking.sound result.below × ((O.Walking.setup result.below).rank (O.Walking.current result.below) ≤ result.most) }
-        ensures setup { capped result.most (O.Walking.setup result.below) ≡ capped most (O.Walking.setup below) }
-        ensures root { O.Walking.current result.below ≡ (O.Walking.setup below).root }
+        ensures sound { ⟦<Cap<O> as Walking>⟧.sound result }
+        ensures setup { ⟦<Cap<O> as Walking>⟧.setup result ≡ capped most (O.Walking.setup below) }
+        ensures root { ⟦<Cap<O> as Walking>⟧.current result ≡ (O.Walking.setup below).root }
+        ensures cut { Cut most (O.Walking.setup below) (⟦<Cap<O> as Walking>⟧.setup result) }
+        ensures called { O.Walking.calls result.below ≡ ticks O.Walking.tick (steps_home (O.Walking.setup below) (O.Walking.current below)) (O.Walking.calls below) }
     {
         go_home(&mut below);
         Cap { below, most }
@@ -86,7 +91,7 @@ impl<O: Coded> Coded for Cap<O> {
 
     // An object above the cap is left again for the one that was held.
     fn take(&mut self, row: &[u8]) -> Result<(), Refusal> {
-        // no heap: a code is held in memory of a fixed size, with its size beside it
+        // a take has no answer for want of memory, so the code is held in memory of a fixed size
         let mut held = [0u8; MOST_SIZE];
         let _ = self.below.put(&mut held);
         self.below.take(row)?;

@@ -16,7 +16,7 @@ use Rattle.connected.proofs.Decided.{connected_decides, empty_passes}
 use Rattle.connected.proofs.Removal.{can_go}
 
 -- a filled slot, and what it says
-slot_says : (n : ℕ) (t : List ℕ) (s r j k : ℕ) → set_slot n t s j ≡ Some (r, k) → (is_set n t r ≡ true) × (r ≡ turned s j) × (k ≡ j)
+pub slot_says : (n : ℕ) (t : List ℕ) (s r j k : ℕ) → set_slot n t s j ≡ Some (r, k) → (is_set n t r ≡ true) × (r ≡ turned s j) × (k ≡ j)
 unfolding set_slot
 slot_says n t s r j k e = go (is_set n t (turned s j)) refl e
   where
@@ -46,7 +46,7 @@ unfolding set_rank
 rank_turned n s i l m =
     omega (arith, count_change n (bit (turned s i)) (bit s) i l (λ j h d. flip_other s i j d), flip_same s i)
 
-leaver : (n : ℕ) (t : List ℕ) (s i : ℕ) → can_leave n t s i ≡ true → Member s i × (is_set n t (turned s i) ≡ true)
+pub leaver : (n : ℕ) (t : List ℕ) (s i : ℕ) → can_leave n t s i ≡ true → Member s i × (is_set n t (turned s i) ≡ true)
 unfolding can_leave
 leaver n t s i h =
     let p = and_parts (eqb (bit s i) 1) (is_set n t (turned s i)) h in
@@ -70,7 +70,7 @@ unfolding is_set
 empty_set n t = and_from (ltb 0 (2 ^ n)) (is_connected t 0) (lt-ltb 0 (2 ^ n) (pow_pos n)) (empty_passes t)
 
 module _ (n : ℕ) (t : List ℕ) (few : n ≤ 64) (both : Mutual t) where
-  in_a_word : (s : ℕ) → s < 2 ^ n → s < 2 ^ 64
+  pub in_a_word : (s : ℕ) → s < 2 ^ n → s < 2 ^ 64
   in_a_word s h = lt_of_lt_of_le h (pow_mono few)
 
   -- the test decides what the textbook says

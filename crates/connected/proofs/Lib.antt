@@ -5,3 +5,4 @@ pub mod Decided
 pub mod Removal
 pub mod Turned
 pub mod Laws
+pub mod Members

@@ -1,2 +1,3 @@
 pub mod Connected
 pub mod Sets
+pub mod Textbook

@@ -1,3 +1,4 @@
 pub mod Codes
 pub mod Lift
 pub mod Pick
+pub mod RowDigits

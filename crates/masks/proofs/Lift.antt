@@ -7,7 +7,7 @@ use Rattle.masks.specs.Codes.{code, number, is_code}
 use Rattle.masks.specs.Family.{Family, FamilyLaws, as_slot, coded}
 use Rattle.masks.proofs.Codes.{number_code, code_is, code_length, code_bytes, code_number}
 
-slot_filled : (o : Option (ℕ × ℕ)) (w : Code) (k : ℕ) → as_slot o ≡ filled w k → (r : ℕ) × (o ≡ Some (r, k)) × (w ≡ code r)
+pub slot_filled : (o : Option (ℕ × ℕ)) (w : Code) (k : ℕ) → as_slot o ≡ filled w k → (r : ℕ) × (o ≡ Some (r, k)) × (w ≡ code r)
 slot_filled None w k e = let z : ◌≡◌ {A = ℕ} 0 1 = cc in absurd (omega arith)
 slot_filled (Some x) w k e =
     let same : x.1 ≡ k = cc in

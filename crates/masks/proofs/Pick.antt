@@ -1,8 +1,8 @@
 -- What the first candidate that passes is.
-use Rattle.std.proofs.Common.{◌≡◌, ℕ, zero, suc, ◌<◌, Bool, true, false, List, [], ◌∷◌, length, get_or, Some, None, Option, refl, ap, ◌∙◌, subst, arith}
+use Rattle.std.proofs.Common.{◌≡◌, ℕ, zero, suc, ◌<◌, ◌≤◌, ◌≢◌, ◌⊎◌, Bool, true, false, List, [], ◌∷◌, length, get_or, Some, None, Option, sym, refl, ap, ◌∙◌, subst, inl, inr, arith}
 use Rattle.std.specs.List.{range_with_len}
 use Rattle.std.proofs.lemmas.List.FromFn.{length-range_with_len, get_or-range_with_len}
-use Rattle.std.proofs.lemmas.Bool.{both_ways}
+use Rattle.std.proofs.lemmas.Bool.{both_ways, cases_eq}
 use Rattle.masks.specs.Pick.{pick, least}
 
 -- no candidate passes
@@ -78,3 +78,22 @@ pub least_found : (passes : ℕ → Bool) (n i : ℕ) → i < n → passes i ≡
 least_found passes n i l here =
     let m : i < length (range_with_len 0 n) = omega (arith, length-range_with_len 0 n) in
     pick_found passes (range_with_len 0 n) i m (ap passes (counted n i l) ∙ here)
+
+-- no smaller one passes
+pub least_before : (passes : ℕ → Bool) (n h : ℕ) → least passes n ≡ Some h → (j : ℕ) → j < h → passes j ≡ false
+least_before passes n h e j l = below (suc j) l j (omega arith)
+  where
+    step : (k : ℕ) → k < h → ((i : ℕ) → i < k → passes i ≡ false) → (b : Bool) → passes k ≡ b → passes k ≡ false
+    step k m before true p =
+        let same : ◌≡◌ {A = Option ℕ} (Some k) (Some h) = sym (least_is passes n k (omega (arith, (least_some passes n h e).0)) before p) ∙ e in
+        let z : k ≡ h = cc in
+        absurd (omega arith)
+    step k m before false p = p
+
+    below : (k : ℕ) → k ≤ h → (i : ℕ) → i < k → passes i ≡ false
+    below zero m i l = absurd (omega arith)
+    below (suc k) m i l = at (cases_eq i k) (below k (omega arith))
+      where
+        at : (i ≡ k) ⊎ (i ≢ k) → ((i : ℕ) → i < k → passes i ≡ false) → passes i ≡ false
+        at (inl same) before = ap passes same ∙ step k (omega arith) before (passes k) refl
+        at (inr other) before = before i (omega arith)

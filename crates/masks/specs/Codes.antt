@@ -1,5 +1,6 @@
 -- Masks as codes: a number below 2 ^ 64 is written as 8 bytes, low byte first.
-use Rattle.std.specs.Prelude.{ℕ, zero, suc, ◌+◌, ◌*◌, ◌/◌, ◌%◌, Bool, true, false, cond, ◌&&◌, List, [], ◌∷◌, ◌++◌, length, drop, Some, None, Ok, Err, Option, Result, ◌==◌, nat_lt}
+use Rattle.std.specs.Prelude.{ℕ, zero, suc, ◌+◌, ◌*◌, ◌/◌, ◌%◌, Bool, true, false, cond, ◌&&◌, List, [], ◌∷◌, ◌++◌, length, drop, Some, None, Ok, Err, Option, Result, ◌==◌, nat_lt, slice_index}
+use Rattle.digits.specs.Bits.{bit}
 use Rattle.refusals.specs.declared.Refusal.{Refusal}
 use Rattle.refusals.specs.declared.Refusal.TheVariants.{BufferShort}
 
@@ -12,6 +13,10 @@ bytes (suc k) s = s % 256 ∷ bytes k (s / 256)
 unfoldable pub number : List ℕ → ℕ
 number [] = 0
 number (b ∷ bs) = b + 256 * number bs
+
+-- digit i of a row of bytes: digit i mod 8 of byte i / 8
+abbrev pub row_digit : List ℕ → ℕ → ℕ
+row_digit row i = bit (slice_index row (i / 8)) (i % 8)
 
 unfoldable pub all_bytes : List ℕ → Bool
 all_bytes [] = true

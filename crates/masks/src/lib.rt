@@ -1,9 +1,11 @@
 //! Sets as masks of 64 digits, and their codes of 8 bytes.
 #![tactic(auto)]
 
-ghost use Rattle.std.specs.Prelude.{◌≡◌};
+ghost use Rattle.std.specs.Prelude.{◌≡◌, ℕ, ◌^◌, ◌<◌, true, List};
+ghost use Rattle.std.specs.List.{AllByRecursion};
+ghost use Rattle.digits.specs.Bits.{bit};
 ghost use Rattle.oracle.specs.Laws.{Lawful};
-ghost use Rattle.masks.specs.Codes.{read_code, written_code};
+ghost use Rattle.masks.specs.Codes.{code, number, is_code, row_digit, read_code, written_code};
 ghost use Rattle.masks.specs.Family.{Family, FamilyLaws, coded};
 
 use refusals::Refusal;
@@ -29,7 +31,10 @@ pub fn write_code(set: u64, buffer: &mut [u8]) -> Result<(), Refusal>
     Ok(())
 }
 
-// Every family of masks that keeps the laws gives a lawful set-up on codes.
+// Every family of masks that keeps the laws gives a lawful set-up on codes. Digit i of the number that a row
+// of bytes writes is digit i mod 8 of byte i / 8, and the code of a number is a row of 8 bytes that writes it.
 pub fn masks_stand()
-    ensures { (f : Family) → FamilyLaws f → Lawful (coded f) }
+    ensures laws { (f : Family) → FamilyLaws f → Lawful (coded f) }
+    ensures digits { (row : List ℕ) → AllByRecursion (λ b. b < 256) row → (i : ℕ) → bit (number row) i ≡ row_digit row i }
+    ensures codes { (s : ℕ) → s < 2 ^ 64 → (is_code (code s) ≡ true) × (number (code s) ≡ s) }
 {}

@@ -12,10 +12,10 @@ use Rattle.polygon.specs.declared.subject.Polygon.{Polygon}
 abbrev pub current_of : Polygon → Code
 current_of p = code_of (set_of p.outline.n p.rows.0)
 
--- The set-up and the current object of what making gives, or its refusal.
-abbrev pub seen : Result Polygon Refusal → Result (Setup × Code) Refusal
-seen (Ok p) = Ok (polygon p.outline.n, current_of p)
-seen (Err k) = Err k
+-- The set-up and the current object of what making gives, as a trait has them, or its refusal.
+abbrev pub seen_by : (Polygon → Setup) → (Polygon → Code) → Result Polygon Refusal → Result (Setup × Code) Refusal
+seen_by setup current (Ok p) = Ok (setup p, current p)
+seen_by setup current (Err k) = Err k
 
 -- A polygon of 3 to 24 corners stands at its root.
 abbrev pub begun : ℕ → Result (Setup × Code) Refusal

@@ -5,7 +5,8 @@ ghost use Rattle.polygon.specs.Rows.{linked, switched, common, two_lowest, gap_o
 
 use super::chord::Chord;
 
-// No heap: there is a row for each corner that a polygon can have.
+// A row for each corner that a polygon can have: `take` has no answer for want of memory, so the rows are of a
+// fixed size.
 #[derive(Clone, Copy)]
 pub(crate) struct Rows(pub(crate) [u32; 24]);
 

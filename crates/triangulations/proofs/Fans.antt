@@ -14,7 +14,7 @@ use Rattle.triangulations.proofs.Gaps.{Full, full_fan}
 use Rattle.triangulations.proofs.Tests.{diagonal_decides}
 
 -- pair e is a diagonal at corner 0
-abbrev Spoke : ℕ → ℕ → Type 0
+abbrev pub Spoke : ℕ → ℕ → Type 0
 Spoke n e = Diagonal n (corners_of e) × ((corners_of e).0 ≡ 0)
 
 spoke_decides : (n e : ℕ) → Decides (is_diagonal n (corners_of e) && eqb (corners_of e).0 0) (Spoke n e)

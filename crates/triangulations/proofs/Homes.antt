@@ -7,13 +7,15 @@ use Rattle.pairs.specs.Pairs.{number, corners_of, pair_count}
 use Rattle.pairs.proofs.Numbers.{number_below, number_later}
 use Rattle.triangulations.specs.Moves.{edge, joined, leads_home, home_slot}
 use Rattle.triangulations.specs.Polygon.{Diagonal}
-use Rattle.triangulations.specs.Textbook.{PairSet, Triangulation}
+use Rattle.triangulations.specs.Statements.{Smallest}
+use Rattle.triangulations.specs.Textbook.{PairSet, Triangulation, LeadsHome}
 use Rattle.triangulations.proofs.Deciding.{diagonal_below}
 use Rattle.triangulations.proofs.Drawing.{Small, member_edge, corners_pair, drawing}
 use Rattle.triangulations.proofs.Drawings.{Drawn}
 use Rattle.triangulations.proofs.Edges.{Inner, inner, diagonal_from, diagonal_numbered, edge_member, joined_up}
 use Rattle.triangulations.proofs.Gaps.{Gap, Full, gap_closed, gap_after, full_fan}
-use Rattle.triangulations.proofs.Searches.{Found, Nowhere, least_cases, some_is, some_not_none}
+use Rattle.triangulations.proofs.Searches.{Found, Nowhere, least_cases, some_is, some_not_none, least_first}
+use Rattle.triangulations.proofs.Words.{pair_at, corners_at, edge_from, side_or_member}
 
 -- pair e is a member away from corner 0, and its corners are joined to corner 0
 pub record Homeward (n : ℕ) (S : PairSet) (e : ℕ) : Type 0 where
@@ -162,6 +164,55 @@ module _ (n : ℕ) (S : PairSet) (large : 3 ≤ n) (few : n ≤ 24) (small : Sma
       go : Found (pair_count n) (leads_home n S) ⊎ Nowhere (pair_count n) (leads_home n S) → home_slot n S ≡ None
       go (inl f) = absurd (never f.place ((homeward_decides n S t.only_diagonals f.place).0 f.passes))
       go (inr f) = f.is
+
+  -- in the words of the textbook
+  leads-from : (e : ℕ) → Homeward n S e → LeadsHome n S e
+  leads-from e h =
+      record {
+        a = (corners_of e).0;
+        b = (corners_of e).1;
+        pair = pair_at n e (t.only_diagonals e h.member);
+        member = h.member;
+        away = h.away;
+        first = side_or_member n S 0 (corners_of e).0 h.first;
+        second = side_or_member n S 0 (corners_of e).1 h.second;
+      }
+
+  leads-to : (e : ℕ) → LeadsHome n S e → Homeward n S e
+  leads-to e w =
+      let at = corners_at n S e w.a w.b few w.pair in
+      record {
+        member = w.member;
+        away = subst (λ (p : ℕ × ℕ). 0 < p.0) (sym at) w.away;
+        first = subst (λ (p : ℕ × ℕ). edge n S 0 p.0 ≡ 1) (sym at) (edge_from n S 0 w.a w.first);
+        second = subst (λ (p : ℕ × ℕ). edge n S 0 p.1 ≡ 1) (sym at) (edge_from n S 0 w.b w.second);
+      }
+
+  home-first : (e d : ℕ) → home_slot n S ≡ Some e → LeadsHome n S d → e ≤ d
+  unfolding home_slot
+  home-first e d h w = go (cases_lt d e)
+    where
+      go : (d < e) ⊎ (e ≤ d) → e ≤ d
+      go (inr l) = l
+      go (inl l) =
+          absurd
+          (both_ways (leads_home n S d) (least_first (pair_count n) (leads_home n S) e h d l)
+          ((homeward_decides n S t.only_diagonals d).1 (leads-to d w)))
+
+  pub home_smallest : Smallest (LeadsHome n S) (home_slot n S)
+  home_smallest =
+      record {
+        is_some = λ e. ((λ h. (leads-from e (home_homeward e h).0, λ d w. home-first e d h w)), λ w. found e w.0 w.1);
+        is_none = ((λ h e w. let f = home_from e (leads-to e w) in some_not_none (home_slot n S) f.0 f.1 h), λ never. home_none (λ e h. never e (leads-from e h)));
+      }
+    where
+      found : (e : ℕ) → LeadsHome n S e → ((d : ℕ) → LeadsHome n S d → e ≤ d) → home_slot n S ≡ Some e
+      found e w least =
+          let f = home_from e (leads-to e w) in
+          let after = least f.0 (leads-from f.0 (home_homeward f.0 f.1).0) in
+          let before = home-first f.0 e f.1 w in
+          let same : f.0 ≡ e = omega arith in
+          f.1 ∙ ap Some same
 
   -- with corner 0 joined to all there is no way home
   pub home_full : Full n (edge n S) → home_slot n S ≡ None

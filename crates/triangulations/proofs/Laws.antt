@@ -45,17 +45,17 @@ module _ (n : ℕ) (large : 3 ≤ n) (few : n ≤ 24) where
 
   -- ---- the root
 
-  root-members : members (code_of (fan n)) ≡ fan n
-  root-members = code_members_are n (fan n) (fan_small n) (fan_triangulation n large few)
+  pub root_members : members (code_of (fan n)) ≡ fan n
+  root_members = code_members_are n (fan n) (fan_small n) (fan_triangulation n large few)
 
   root_homeless : home_slot n (members (code_of (fan n))) ≡ None
   root_homeless =
-      ap (home_slot n) root-members
+      ap (home_slot n) root_members
       ∙ home_none n (fan n) large few (fan_small n) (fan_triangulation n large few)
       (λ e h. omega (arith, h.away, (fan_spoke n e h.member).1))
 
   root_rank : rank_of n (members (code_of (fan n))) ≡ 0
-  root_rank = ap (rank_of n) root-members ∙ fan_rank n
+  root_rank = ap (rank_of n) root_members ∙ fan_rank n
 
   -- ---- the way home
 

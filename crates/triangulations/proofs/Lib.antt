@@ -17,6 +17,8 @@ pub mod Homes
 pub mod Fans
 pub mod Ranks
 pub mod Objects
+pub mod Words
+pub mod Counted
 pub mod Laws
 pub mod Sides
 pub mod Small

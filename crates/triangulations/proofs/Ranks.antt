@@ -23,11 +23,11 @@ use Rattle.triangulations.proofs.Swaps.{swap_out, Place, place, gone, come, kept
 unfoldable pub degree : ℕ → PairSet → ℕ
 degree n S = count n (edge n S 0)
 
-off_zero : (S : PairSet) (e : ℕ) → (corners_of e).0 ≡ 0 → off_corner S e ≡ 0
+pub off_zero : (S : PairSet) (e : ℕ) → (corners_of e).0 ≡ 0 → off_corner S e ≡ 0
 unfolding off_corner
 off_zero S e h = cond-true (eqb (corners_of e).0 0) 0 (S e) (eq-eqb (corners_of e).0 0 h)
 
-off_away : (S : PairSet) (e : ℕ) → 0 < (corners_of e).0 → off_corner S e ≡ S e
+pub off_away : (S : PairSet) (e : ℕ) → 0 < (corners_of e).0 → off_corner S e ≡ S e
 unfolding off_corner
 off_away S e h = cond-false (eqb (corners_of e).0 0) 0 (S e) (ne_eqb (corners_of e).0 0 (λ z. omega arith))
 

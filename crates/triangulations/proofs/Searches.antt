@@ -91,3 +91,31 @@ least_only k f j l e h = least_is f k j l (λ m q. other m q (f m) refl) e
     other : (m : ℕ) → m < j → (b : Bool) → f m ≡ b → f m ≡ false
     other m q true p = absurd (omega (arith, h m (omega arith) p))
     other m q false p = p
+
+-- a test passes at no number below k, or at a first one
+first_passing : (k : ℕ) (f : ℕ → Bool)
+    → ((m : ℕ) → m < k → f m ≡ false) ⊎ ((p : ℕ) × (p < k) × (f p ≡ true) × ((m : ℕ) → m < p → f m ≡ false))
+first_passing zero f = inl (λ m l. absurd (omega arith))
+first_passing (suc k) f = go (first_passing k f) (f k) refl
+  where
+    go : ((m : ℕ) → m < k → f m ≡ false) ⊎ ((p : ℕ) × (p < k) × (f p ≡ true) × ((m : ℕ) → m < p → f m ≡ false)) → (b : Bool) → f k ≡ b
+        → ((m : ℕ) → m < suc k → f m ≡ false) ⊎ ((p : ℕ) × (p < suc k) × (f p ≡ true) × ((m : ℕ) → m < p → f m ≡ false))
+    go (inr x) b e = inr (x.0, omega (arith, x.1), x.2, x.3)
+    go (inl none) true e = inr (k, omega arith, e, none)
+    go (inl none) false e = inl (λ m l. upto m l (cases_order m k))
+      where
+        upto : (m : ℕ) → m < suc k → (m ≡ k) ⊎ ((m < k) ⊎ (k < m)) → f m ≡ false
+        upto m l (inl s) = ap f s ∙ e
+        upto m l (inr (inl s)) = none m s
+        upto m l (inr (inr s)) = absurd (omega arith)
+
+-- none before the least passes
+pub least_first : (k : ℕ) (f : ℕ → Bool) (i : ℕ) → least f k ≡ Some i → (m : ℕ) → m < i → f m ≡ false
+least_first k f i e m l = go (first_passing i f)
+  where
+    go : ((j : ℕ) → j < i → f j ≡ false) ⊎ ((p : ℕ) × (p < i) × (f p ≡ true) × ((j : ℕ) → j < p → f j ≡ false)) → f m ≡ false
+    go (inl none) = none m l
+    go (inr x) =
+        let under = (least_some f k i e).0 in
+        let same = some_is (least f k) i x.0 e (least_is f k x.0 (omega (arith, x.1)) x.3 x.2) in
+        absurd (omega (arith, x.1))

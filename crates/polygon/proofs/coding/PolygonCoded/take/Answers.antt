@@ -16,7 +16,7 @@ returns-in_err-row c =
     let row = c.args.row.now in
     let refused : c.from_residual.result ≡ Err NotACode = search rules in
     let none = no_row n row (iff_false c.as_array.ensures.variant (sym c.in_err-row.ensures.variant)) in
-    record { sound = tt; setup = refl; moved = rw refused (take_refused n (current_of p) row none) }
+    record { sound = c.requires; setup = refl; moved = rw refused (take_refused n (current_of p) row none); called = refl }
 
 pub returns-then-not-all_fit : goal.returns-then-not-all_fit
 returns-then-not-all_fit c =
@@ -29,9 +29,10 @@ returns-then-not-all_fit c =
     let tie = subst (λ (v : Code). Tied n (members v) rows) same c.gathered-rows.ensures in
     let none = ap (λ (v : Code). every 280 (fits n v rows)) (sym same) ∙ sym c.all_fit.ensures ∙ c.if-not-all_fit.true in
     record {
-      sound = tt;
+      sound = c.requires;
       setup = refl;
       moved = take_refused n (current_of p) row (judged n row rows p.outline.few long (λ i. (c.type_inv.row i).fits) tie false none);
+      called = refl;
     }
 
 pub invariant_of-self : goal.invariant_of-self
@@ -58,10 +59,11 @@ returns c =
     let tie = subst (λ (v : Code). Tied n (members v) rows) same c.gathered-rows.ensures in
     let whole = ap (λ (v : Code). every 280 (fits n v rows)) (sym same) ∙ sym c.all_fit.ensures ∙ c.if-not-all_fit.false in
     record {
-      sound = tt;
+      sound = c.requires;
       setup = refl;
       moved =
           take_granted n (current_of p) (code_of (set_of n rows)) row
           (judged n row rows p.outline.few long (λ i. (c.type_inv.row i).fits) tie true whole)
           (taken_code n row rows p.outline.few long (λ i. (c.type_inv.row i).fits) tie whole);
+      called = refl;
     }

@@ -12,9 +12,10 @@ returns-then-not-has c =
     let p = c.args.self.now in
     let out = no_member p c.args.slot c.has.result c.has.ensures c.if-not-has.true in
     record {
-      sound = tt;
+      sound = c.requires;
       setup = refl;
       moved = step_none p.outline.n (current_set p) c.args.slot (same_set p) out (omega (arith, c.pair_total.ensures.value));
+      called = refl;
     }
 
 pub apexes-across-requires : goal.apexes-across-requires
@@ -42,10 +43,11 @@ returns c =
     q c.apexes-across.ensures c.switch.new.self.0 c.switch-2.new.self.0 c.switch.ensures c.switch-2.ensures (omega arith) in
     let w = code_of (set_of p.outline.n c.switch-2.new.self.0) in
     record {
-      sound = tt;
+      sound = c.requires;
       setup = refl;
       moved =
           ap (λ (x : ℕ). (Ok (Some x), w)) c.number.ensures
           ∙ step_done p.outline.n (current_set p) c.args.slot (number q.0 q.1) w (same_set p) m f.replaces (ap code_of s.same)
           (omega (arith, c.pair_total.ensures.value));
+      called = refl;
     }
