@@ -4,3 +4,7 @@ pub mod Resumes
 pub mod Sequences
 pub mod WholeTally
 pub mod RunCounts
+pub mod WholeSteps
+pub mod Called
+pub mod Refused
+pub mod Returns

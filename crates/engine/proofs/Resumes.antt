@@ -54,7 +54,7 @@ module _ (job : ℕ) (s : Setup) (law : Lawful s) (v : Code) (o : Object s v) (f
   saved-front false u bytes out p =
       ap (λ x. take 512 x.1) p ∙ take_at (block job s v) (drop 512 bytes) 512 (block_length s law v o job fits)
 
-  reopened : (out : List ℕ) → take 512 out ≡ block job s v → (other : Setup) → other ≡ s → (w : View) → plain_resume job other w (take 512 out) ≡ (Ok tt, record { stand = stand_of s Standing v; tally = cleared })
+  pub reopened : (out : List ℕ) → take 512 out ≡ block job s v → (other : Setup) → other ≡ s → (w : View) → plain_resume job other w (take 512 out) ≡ (Ok tt, record { stand = stand_of s Standing v; tally = cleared })
   reopened out front other same w =
       ap (λ n. plain_resume job n w (take 512 out)) same
       ∙ ap (plain_resume job s w) front

@@ -1,10 +1,11 @@
 -- What the tally says at the end of the list.
-use Rattle.std.specs.Prelude.{◌≡◌, ◌+◌, ◌*◌, Bool, true, false, List, [], ◌∷◌, ◌++◌, Ok, Err, Result}
+use Rattle.std.specs.Prelude.{◌≡◌, ◌+◌, ◌*◌, min, ◌⊎◌, Bool, true, false, List, [], ◌∷◌, ◌++◌, Ok, Err, Result}
+use Rattle.std.specs.List.{AllByRecursion}
 use Rattle.refusals.specs.declared.Refusal.{Refusal}
 use Rattle.oracle.specs.Outcomes.{counted}
 use Rattle.oracle.specs.Places.{objects, filled_slots}
 use Rattle.oracle.specs.Setup.{Setup}
-use Rattle.engine.specs.Runs.{Entry}
+use Rattle.engine.specs.Runs.{Entry, Ungranted}
 use Rattle.engine.specs.declared.act.Act.{Act}
 use Rattle.engine.specs.declared.act.Act.TheVariants.{Next, Restart, Read, Save, Resume, Tally as TallyAct}
 use Rattle.engine.specs.declared.act.Answer.{Answer}
@@ -43,3 +44,14 @@ whole_tally s =
 abbrev pub Counted : Setup → List Entry → Type 0
 Counted s entries =
     (before after : List Entry) (e : Entry) → entries ≡ before ++ (e ∷ after) → e.act ≡ Next → e.answer ≡ Ok End → unresumed true before ≡ true → e.tally ≡ whole_tally s
+
+-- No act yet, or the last one was a restart.
+abbrev pub Fresh : List Entry → Type 0
+Fresh entries =
+    (entries ≡ []) ⊎ ((before : List Entry) × (restart : Entry) × (entries ≡ before ++ (restart ∷ [])) × (restart.act ≡ Restart))
+
+-- The law that the tally keeps: at a next that answers the end, with no granted resume since a restart or
+-- since the beginning, the objects are N and the steps are N × D + F, each up to the greatest u64.
+abbrev pub Since : Setup → List Entry → Type 0
+Since s entries =
+    (before between after : List Entry) (e : Entry) → entries ≡ before ++ (between ++ (e ∷ after)) → Fresh before → AllByRecursion Ungranted between → e.act ≡ Next → e.answer ≡ Ok End → (e.tally.objects ≡ min (objects s) 18446744073709551615) × (e.tally.steps ≡ min (objects s * s.width + filled_slots s) 18446744073709551615)

@@ -8,3 +8,5 @@ pub mod States
 pub mod Acts
 pub mod Runs
 pub mod Counts
+pub mod Steps
+pub mod Scenarios

@@ -1,10 +1,11 @@
 -- Lists of acts carried out by the plain census, one after another.
-use Rattle.std.specs.Prelude.{ℕ, List, [], ◌∷◌, vec_items, Result}
+use Rattle.std.specs.Prelude.{◌≡◌, ℕ, List, [], ◌∷◌, vec_items, Err, Result}
 use Rattle.refusals.specs.declared.Refusal.{Refusal}
 use Rattle.oracle.specs.Setup.{Setup}
 use Rattle.engine.specs.Acts.{plain_act}
 use Rattle.engine.specs.View.{View}
 use Rattle.engine.specs.declared.act.Act.{Act}
+use Rattle.engine.specs.declared.act.Act.TheVariants.{Resume}
 use Rattle.engine.specs.declared.act.Answer.{Answer}
 use Rattle.engine.specs.declared.call.Call.{Call}
 use Rattle.engine.specs.declared.tally.Tally.{Tally}
@@ -20,6 +21,11 @@ pub record Entry : Type 0 where
   pub bytes : List ℕ
   pub answer : Result Answer Refusal
   pub tally : Tally
+
+-- No granted resume: a resume under any job number was refused.
+abbrev pub Ungranted : Entry → Type 0
+Ungranted e =
+    (job : ℕ) → e.act ≡ Resume job → (refusal : Refusal) × (e.answer ≡ Err refusal)
 
 abbrev pub order_of : Call → Order
 order_of call = record { act = call.act; bytes = vec_items call.bytes }

@@ -1,4 +1,4 @@
-//! The tally's own calls.
+//! How a tally is kept.
 ghost use Rattle.std.specs.Prelude.{◌≡◌, ◌+◌};
 ghost use Rattle.oracle.specs.Outcomes.{counted};
 ghost use Rattle.engine.specs.States.{visited};
@@ -9,7 +9,7 @@ use oracle::outcome::{Outcome, Reached};
 
 impl Tally {
     // One object and no steps.
-    pub fn cleared() -> Tally
+    pub(crate) fn cleared() -> Tally
         ensures { result ≡ cleared }
     {
         Tally {
@@ -19,7 +19,7 @@ impl Tally {
     }
 
     // Adds a walk. The numbers stay at the greatest u64 once they are there.
-    pub fn book(&mut self, walk: Outcome)
+    pub(crate) fn book(&mut self, walk: Outcome)
         ensures objects { self.new.objects ≡ visited walk.reached self.old.objects }
         ensures steps { self.new.steps ≡ counted (self.old.steps + walk.steps) }
     {

@@ -5,6 +5,7 @@ pub mod act;
 pub mod call;
 pub mod census;
 mod counting;
-pub mod rest;
+mod rest;
 pub mod run;
 pub mod tally;
+pub mod theory;

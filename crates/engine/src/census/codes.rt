@@ -39,6 +39,7 @@ impl<O: Coded> Census<O> {
     pub fn resume(&mut self, job: u32, block: &[u8]) -> Result<(), Refusal>
         ensures setup { O.Walking.setup self.new.oracle ≡ O.Walking.setup self.old.oracle }
         ensures resumed { (result, self.new.view) ≡ plain_resume job (O.Walking.setup self.old.oracle) self.old.view block.now }
+        ensures called { O.Walking.calls self.new.oracle ≡ O.Walking.calls self.old.oracle }
     {
         self.tour.take_block(job, block)
     }

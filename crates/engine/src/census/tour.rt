@@ -2,10 +2,13 @@
 ghost use Rattle.std.specs.Prelude.{◌≡◌, MatchResult};
 ghost use Rattle.refusals.specs.declared.Refusal.TheVariants.{PastEnd};
 ghost use Rattle.marks.specs.Opening.{moved_to, opened};
+ghost use Rattle.oracle.specs.Home.{steps_home};
+ghost use Rattle.oracle.specs.Outcomes.{ticks};
 ghost use Rattle.oracle.specs.Walk.{walk};
 ghost use Rattle.engine.specs.declared.rest.Rest.TheVariants.{Past, Standing};
 ghost use Rattle.engine.specs.Places.{read_from, save_from};
 ghost use Rattle.engine.specs.States.{advanced, next_booked, next_state, rest_after, spot_of, tally_after};
+ghost use Rattle.engine.specs.Steps.{next_steps};
 ghost use Rattle.engine.specs.Tallies.{booked, cleared};
 
 use crate::rest::Rest;
@@ -41,7 +44,7 @@ impl<O> Tour<O> {
 }
 
 impl<O: Walking> Tour<O> {
-    // Goes home, uncounted.
+    // Goes home. The tally does not count the steps.
     pub(super) fn begin(&mut self)
         requires { O.Walking.sound self.old.oracle }
         ensures sound { O.Walking.sound self.new.oracle }
@@ -49,6 +52,7 @@ impl<O: Walking> Tour<O> {
         ensures root { O.Walking.current self.new.oracle ≡ (O.Walking.setup self.old.oracle).root }
         ensures rest { self.new.rest ≡ Standing }
         ensures tally { self.new.tally ≡ cleared }
+        ensures called { O.Walking.calls self.new.oracle ≡ ticks O.Walking.tick (steps_home (O.Walking.setup self.old.oracle) (O.Walking.current self.old.oracle)) (O.Walking.calls self.old.oracle) }
     {
         go_home(&mut self.oracle);
         self.rest = Rest::Standing;
@@ -63,6 +67,7 @@ impl<O: Walking> Tour<O> {
         ensures setup { O.Walking.setup self.new.oracle ≡ O.Walking.setup self.old.oracle }
         ensures advanced { (result, self.new.rest, O.Walking.current self.new.oracle) ≡ advanced (O.Walking.setup self.old.oracle) (walk (O.Walking.setup self.old.oracle) (O.Walking.current self.old.oracle)).stop }
         ensures booked { self.new.tally ≡ booked (walk (O.Walking.setup self.old.oracle) (O.Walking.current self.old.oracle)).stop (walk (O.Walking.setup self.old.oracle) (O.Walking.current self.old.oracle)).steps self.old.tally }
+        ensures called { O.Walking.calls self.new.oracle ≡ ticks O.Walking.tick (walk (O.Walking.setup self.old.oracle) (O.Walking.current self.old.oracle)).steps (O.Walking.calls self.old.oracle) }
     {
         let outcome = walk(&mut self.oracle, 0);
         self.tally.book(outcome);
@@ -81,6 +86,7 @@ impl<O: Walking> Tour<O> {
         ensures setup { O.Walking.setup self.new.oracle ≡ O.Walking.setup self.old.oracle }
         ensures advanced { (result, self.new.rest, O.Walking.current self.new.oracle) ≡ next_state (O.Walking.setup self.old.oracle) self.old.rest (O.Walking.current self.old.oracle) }
         ensures booked { self.new.tally ≡ next_booked (O.Walking.setup self.old.oracle) self.old.rest (O.Walking.current self.old.oracle) self.old.tally }
+        ensures called { O.Walking.calls self.new.oracle ≡ ticks O.Walking.tick (next_steps (O.Walking.setup self.old.oracle) (spot_of self.old.rest (O.Walking.current self.old.oracle))) (O.Walking.calls self.old.oracle) }
     {
         self.here()?;
         Ok(self.walk_on())
@@ -109,6 +115,7 @@ impl<O: Coded> Tour<O> {
         ensures moved { (result, O.Walking.current self.new.oracle) ≡ moved_to (O.Walking.current self.old.oracle) (opened job (O.Walking.setup self.old.oracle) block.now) }
         ensures rest { self.new.rest ≡ rest_after result self.old.rest }
         ensures tally { self.new.tally ≡ tally_after result self.old.tally }
+        ensures called { O.Walking.calls self.new.oracle ≡ O.Walking.calls self.old.oracle }
     {
         open_block(&mut self.oracle, job, block)?;
         self.rest = Rest::Standing;
