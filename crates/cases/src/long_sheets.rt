@@ -34,7 +34,8 @@ fn longest(rt: HostRuntime) -> Result<(), Fail> {
     for (stop, all, most, line) in cases {
         let sheet = long_sheet(&rt, stop)?;
         assert_eq!(rt; sheet.len(), all);
-        let taken = sheet_bytes(rt.alloc(), sheet.as_slice())?;
+        let mut left = sheet.as_slice();
+        let taken = sheet_bytes(rt.alloc(), &mut left)?;
         assert_eq!(rt; taken.len(), most);
         let mut said = Vec::new(rt.alloc());
         verdict_line(&mut said, taken.as_slice())?;

@@ -33,7 +33,7 @@ fn answer(rt: &HostRuntime, example: &str, out: &mut Vec<u8>) -> anyhow::Result<
         ("list", None) => list_sheet(&sheet, PAGE, out)?,
         ("replay", Some(acts)) => {
             let acts = bytes_of(rt, acts)?;
-            out.extend_from_slice(replay_sheet(rt.alloc(), &sheet, &acts)?.as_slice())?;
+            replay_sheet(&sheet, &acts, out)?;
         }
         _ => bail!("no form of an example"),
     }

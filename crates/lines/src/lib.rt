@@ -14,6 +14,7 @@ use std::alloc::AllocError;
 mod hex;
 mod parts;
 pub mod verdict;
+pub mod writing;
 
 // The line of an object: its rank, and its code in small hexadecimal. In line, so that LLVM sees the
 // buffer's own fields and writes many digits at once: else a listing takes a sixth more instructions.

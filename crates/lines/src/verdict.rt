@@ -1,13 +1,20 @@
 //! What is said of a sheet: what it asks for, or its fault.
-ghost use Rattle.std.specs.Prelude.{◌+◌, ◌≤◌, ◌++◌, decimal, length};
+ghost use Rattle.std.specs.Prelude.{◌+◌, ◌≤◌, ◌++◌, decimal, length, IfSome, OnOk};
+ghost use Rattle.std.specs.Io.KnownBytes.{Consumes};
+ghost use Rattle.sheets.specs.Reading.{enough, most_bytes};
+ghost use Rattle.sheets.specs.Taking.{TakesUpTo};
 ghost use Rattle.sheets.specs.Views.{plan_of, subject_of};
 ghost use Rattle.lines.specs.Appended.{Appended, HasRoom, Line};
 ghost use Rattle.lines.specs.Texts.{plan_room, plan_text, subject_room, subject_text, verdict_on, verdict_room};
+ghost use Rattle.lines.specs.Written.{Written};
 
 use crate::fault_line;
 use crate::parts::{put, put_number};
-use sheets::{Plan, Subject, read_sheet};
-use std::alloc::AllocError;
+use crate::writing::write_flushed;
+use sheets::{Plan, Subject, read_sheet, sheet_bytes};
+use std::alloc::{AllocError, Global};
+use std::io;
+use std::io::{Read, Write};
 
 // A word, and a number behind it.
 fn put_counted(out: &mut Vec<u8>, word: &[u8], number: u32)
@@ -55,4 +62,20 @@ pub fn verdict_line(out: &mut Vec<u8>, sheet: &[u8]) -> Result<(), AllocError>
         Ok(plan) => plan_line(out, &plan),
         Err(fault) => fault_line(out, &fault),
     }
+}
+
+// Reads a sheet and writes the line for it.
+pub fn print_verdict<R: Read, W: Write>(
+    heap: Global,
+    reader: &mut R,
+    writer: &mut W,
+) -> io::Result<()>
+    ensures printed { IfSome (R.remaining reader.old) (λ xs. Written (W.contents writer.old) (W.contents writer.new) result (verdict_on xs)) }
+    ensures rest { OnOk result (IfSome (R.remaining reader.old) (λ xs. Consumes (R.remaining reader.old) (R.remaining reader.new) (enough xs))) }
+    ensures taken { TakesUpTo (most_bytes + 1) (R.remaining reader.old) (R.remaining reader.new) }
+{
+    let sheet = sheet_bytes(heap, reader)?;
+    let mut line = Vec::new(heap);
+    verdict_line(&mut line, sheet.as_slice())?;
+    write_flushed(writer, line.as_slice())
 }

@@ -1,2 +1,5 @@
 mod Accepted
+mod Carrying
+mod InPages
 mod OneLine
+mod Readers

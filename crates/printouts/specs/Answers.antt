@@ -1,5 +1,5 @@
 -- The line that is printed of an act that was carried out.
-use Rattle.std.specs.Prelude.{ℕ, ◌+◌, List, [], ◌∷◌, ◌++◌, length, Ok, Err, codes, Result}
+use Rattle.std.specs.Prelude.{ℕ, List, [], ◌∷◌, ◌++◌, length, Ok, Err, codes, Result}
 use Rattle.refusals.specs.Numbers.{number_of}
 use Rattle.refusals.specs.declared.Refusal.{Refusal}
 use Rattle.engine.specs.Runs.{Entry}
@@ -29,6 +29,21 @@ answer_text act bytes (Err refusal) = refused_text (number_of refusal)
 abbrev pub entry_text : Entry → List ℕ
 entry_text e = answer_text e.act e.bytes e.answer
 
--- The room that is enough for any of them.
+-- The room that is enough for it: that of the whole buffer, or that of the longest other line, a tally's.
+abbrev pub done_room : Act → List ℕ → ℕ
+done_room Read bytes = hex_room (length bytes)
+done_room (Save job) bytes = hex_room (length bytes)
+done_room Next bytes = counts_room
+done_room Restart bytes = counts_room
+done_room (Resume job) bytes = counts_room
+done_room TallyAct bytes = counts_room
+
+abbrev pub answer_room : Act → List ℕ → Result Answer Refusal → ℕ
+answer_room act bytes (Ok (Rank rank)) = counts_room
+answer_room act bytes (Ok End) = counts_room
+answer_room act bytes (Ok Done) = done_room act bytes
+answer_room act bytes (Ok (Counts t)) = counts_room
+answer_room act bytes (Err refusal) = counts_room
+
 abbrev pub entry_room : Entry → ℕ
-entry_room e = hex_room (length e.bytes) + counts_room
+entry_room e = answer_room e.act e.bytes e.answer

@@ -1,4 +1,5 @@
 pub mod Answers
+pub mod Carried
 pub mod Left
 pub mod Plans
 pub mod Printed

@@ -4,13 +4,14 @@ ghost use Rattle.pages.specs.Lines.{WholeSteps};
 ghost use Rattle.pages.specs.Turns.{PagesJoin, Paged};
 ghost use Rattle.sheets.specs.Reading.{read_all};
 ghost use Rattle.sheets.specs.Views.{plan_of};
-ghost use Rattle.printouts.specs.Left.{sheet_left, fault_left};
+ghost use Rattle.printouts.specs.Left.{sheet_left, pages_left, fault_left, SetUps};
 ghost use Rattle.printouts.specs.Plans.{plan_setup, Drawable};
 ghost use Rattle.printouts.specs.Printed.{plan_lines, sheet_lines, sheet_room, WholeOf};
 
 use crate::plans::drawn;
 use cap::Cap;
 use lines::fault_line;
+use oracle::walking::Walking;
 use pages::pager::Pager;
 use polygon::Polygon;
 use regions::Regions;
@@ -19,10 +20,16 @@ use std::alloc::AllocError;
 
 // A listing of the sheet's subject under its cap, or the one line of its fault, none once that is written.
 #[derive(Drop)]
-pub enum SheetPager {
+pub(crate) enum Pages {
     Regions(Pager<Cap<Regions>>),
     Polygon(Pager<Cap<Polygon>>),
     Fault(Option<Fault>),
+}
+
+// What is left to print of the bytes of a sheet.
+#[derive(Drop)]
+pub struct SheetPager {
+    pub(crate) pages: Pages,
 }
 
 impl SheetPager {
@@ -31,24 +38,15 @@ impl SheetPager {
         ensures lines { sheet_left result ≡ sheet_lines sheet.now }
         ensures whole { WholeOf (read_all sheet.now) }
         ensures pages { PagesJoin (sheet_lines sheet.now) }
+        ensures set_ups { SetUps ⟦<Cap<Regions> as Walking>⟧.setup ⟦<Cap<Polygon> as Walking>⟧.setup }
     {
         match read_sheet(sheet) {
-            Ok(plan) => SheetPager::of_plan(plan),
-            Err(fault) => SheetPager::Fault(Some(fault)),
-        }
-    }
-
-    fn of_plan(plan: Plan) -> SheetPager
-        requires { Drawable (plan_of plan).topic }
-        ensures lines { sheet_left result ≡ plan_lines (plan_of plan) }
-        ensures whole { WholeSteps (plan_setup (plan_of plan)) plan.most }
-    {
-        let Plan { subject, cap, most } = plan;
-        match subject {
-            Subject::Regions(map) => {
-                SheetPager::Regions(Pager::new(Cap::new(Regions::new(&map), cap), most))
-            }
-            Subject::Polygon(n) => SheetPager::Polygon(Pager::new(Cap::new(drawn(n), cap), most)),
+            Ok(plan) => SheetPager {
+                pages: Pages::of_plan(plan),
+            },
+            Err(fault) => SheetPager {
+                pages: Pages::Fault(Some(fault)),
+            },
         }
     }
 
@@ -58,10 +56,26 @@ impl SheetPager {
         ensures capacity { vec_capacity out.old ≤ vec_capacity out.new }
         ensures succeeds { vec_len out.old + sheet_room limit (sheet_left self.old) ≤ vec_capacity out.old → is_ok result ≡ true }
     {
-        match self {
-            SheetPager::Regions(pager) => pager.page(out, limit),
-            SheetPager::Polygon(pager) => pager.page(out, limit),
-            SheetPager::Fault(fault) => fault_page(fault, out, limit),
+        match &mut self.pages {
+            Pages::Regions(pager) => pager.page(out, limit),
+            Pages::Polygon(pager) => pager.page(out, limit),
+            Pages::Fault(fault) => fault_page(fault, out, limit),
+        }
+    }
+}
+
+impl Pages {
+    fn of_plan(plan: Plan) -> Pages
+        requires { Drawable (plan_of plan).topic }
+        ensures lines { pages_left result ≡ plan_lines (plan_of plan) }
+        ensures whole { WholeSteps (plan_setup (plan_of plan)) plan.most }
+    {
+        let Plan { subject, cap, most } = plan;
+        match subject {
+            Subject::Regions(map) => {
+                Pages::Regions(Pager::new(Cap::new(Regions::new(&map), cap), most))
+            }
+            Subject::Polygon(n) => Pages::Polygon(Pager::new(Cap::new(drawn(n), cap), most)),
         }
     }
 }

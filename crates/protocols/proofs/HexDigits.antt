@@ -80,7 +80,7 @@ digits_hex (b ∷ bs) h =
     and_from (is_hex (hex_digit (b / 16))) (is_hex (hex_digit (b % 16)) && all_hex (hexed bs)) (digit_hex (b / 16) ha)
     (and_from (is_hex (hex_digit (b % 16))) (all_hex (hexed bs)) (digit_hex (b % 16) lb) (digits_hex bs h.1))
 
-length_hexed : (bs : List ℕ) → length (hexed bs) ≡ 2 * length bs
+pub length_hexed : (bs : List ℕ) → length (hexed bs) ≡ 2 * length bs
 unfolding hexed
 length_hexed [] = refl
 length_hexed (b ∷ bs) = let ih = length_hexed bs in omega arith

@@ -4,3 +4,5 @@ pub mod Parting
 pub mod Spelling
 pub mod Whole
 pub mod Turns
+pub mod Firsts
+pub mod Arrays

@@ -1,5 +1,5 @@
 -- What reading promises, in words of what was written.
-use Rattle.std.specs.Prelude.{◌≡◌, ℕ, ◌+◌, ◌-◌, ◌<◌, ◌≤◌, ◌⊎◌, ◌↔◌, List, [], map, length, Some, None, Ok, Err, Option, Result, slice_index_or}
+use Rattle.std.specs.Prelude.{◌≡◌, ℕ, ◌+◌, ◌-◌, ◌<◌, ◌≤◌, ◌⊎◌, ◌↔◌, List, [], ◌∷◌, ◌++◌, map, length, Some, None, Ok, Err, Option, Result, slice_index_or}
 use Rattle.std.specs.List.{prefix_len, AllByRecursion}
 use Rattle.engine.specs.Runs.{Order}
 use Rattle.sheets.specs.Cut.{cut}
@@ -13,6 +13,15 @@ Spells l o = (q : Request) → (o ≡ Some q) ↔ (Good q × (l ≡ text_of q))
 -- these bytes are the protocol of these requests
 abbrev pub Written : List ℕ → List Request → Type 0
 Written bytes qs = AllByRecursion Good qs × (bytes ≡ protocol_of qs)
+
+-- some requests are what these bytes are the protocol of
+abbrev pub Readable : List ℕ → Type 0
+Readable bytes = (qs : List Request) × Written bytes qs
+
+-- the first line is read as a request exactly if it is that request written out, and the request is good; all
+-- other bytes stand behind the line
+abbrev pub Begins : List ℕ → Option (Request × List ℕ) → Type 0
+Begins bytes o = (q : Request) (r : List ℕ) → (o ≡ Some (q, r)) ↔ (Good q × (bytes ≡ text_of q ++ (10 ∷ r)))
 
 -- bytes are read as requests exactly if they are the protocol of those
 abbrev pub Asks : List ℕ → Result (List Request) ℕ → Type 0

@@ -89,3 +89,8 @@ requests_in bytes = requests_from 1 (cut bytes).lines (cut bytes).rest
 abbrev pub ordered : Result (List Request) ℕ → Result (List Order) ℕ
 ordered (Ok qs) = Ok (map order_for qs)
 ordered (Err n) = Err n
+
+-- the number of the unreadable line, if there is one
+abbrev pub unreadable_of : Result (List Request) ℕ → Option ℕ
+unreadable_of (Ok qs) = None
+unreadable_of (Err n) = Some n

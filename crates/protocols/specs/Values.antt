@@ -40,3 +40,7 @@ bytes_at ds =
       | true ↦ Some []
       | false ↦ elim (in_pairs ds) [ true ↦ Some (bytes_of ds) | false ↦ None ]
     ]
+
+-- bytes, if there are so many of them
+abbrev pub of_length : ℕ → List ℕ → Option (List ℕ)
+of_length n bytes = elim (length bytes == n) [ true ↦ Some bytes | false ↦ None ]

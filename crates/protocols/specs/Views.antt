@@ -32,6 +32,10 @@ both p = (p.0.now, p.1.now)
 abbrev pub with_slice : ℕ × Bor (List ℕ) → ℕ × List ℕ
 with_slice p = (p.0, p.1.now)
 
+-- a request, and the bytes behind it
+abbrev pub asked_before : Request × Bor (List ℕ) → plain.Request × List ℕ
+asked_before p = (request_of p.0, p.1.now)
+
 -- a call of this order, of which nothing is carried out yet
 abbrev pub Fresh : Order → Call → Type 0
 Fresh o call = (order_of call ≡ o) × (call.answer ≡ Ok Done) × (call.tally ≡ cleared)

@@ -1,7 +1,7 @@
 //! Bytes as hexadecimal digits.
 ghost use Rattle.std.specs.Prelude.{◌≡◌, ◌+◌, ◌*◌, ◌<◌, IfOk};
 ghost use Rattle.std.specs.Option.{option_map};
-ghost use Rattle.protocols.specs.Values.{is_hex, hex_value, all_hex, in_pairs, bytes_of, bytes_at};
+ghost use Rattle.protocols.specs.Values.{is_hex, hex_value, all_hex, in_pairs, bytes_of, bytes_at, of_length};
 ghost use Rattle.protocols.specs.Views.{bytes_in};
 
 use std::alloc::{AllocError, Global};
@@ -67,4 +67,18 @@ pub(crate) fn decode(heap: Global, digits: &[u8]) -> Result<Vec<u8>, AllocError>
         rest = tail;
     }
     Ok(bytes)
+}
+
+// The bytes that digits stand for, if they are so many.
+pub fn array_of<const N: usize>(digits: &[u8]) -> Option<[u8; N]>
+    ensures { result ≡ of_length N (bytes_of digits.now) }
+{
+    if digits.len() / 2 != N {
+        return None;
+    }
+    let mut bytes = [0; N];
+    for place in 0..N {
+        bytes[place] = byte_value(digits[2 * place], digits[2 * place + 1]);
+    }
+    Some(bytes)
 }

@@ -10,7 +10,7 @@ use engine::call::Call;
 use std::alloc::{AllocError, Global};
 
 // What each byte of a buffer is before an act writes to it.
-const UNWRITTEN: u8 = 0xee;
+pub const UNWRITTEN: u8 = 0xee;
 
 fn unwritten(heap: Global, size: usize) -> Result<Vec<u8>, AllocError>
     ensures { IfOk result (λ v. v.items ≡ replicate size 238) }

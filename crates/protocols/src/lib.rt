@@ -10,8 +10,10 @@ mod read;
 mod request;
 mod words;
 
-pub use calls::request_call;
+pub use bytes::array_of;
+pub use calls::{UNWRITTEN, request_call};
 pub use error::ProtocolError;
 pub use line::read_request;
-pub use read::read_protocol;
+pub use numbers::MOST_SIZE;
+pub use read::{first_unreadable, next_request, read_protocol};
 pub use request::Request;

@@ -9,7 +9,7 @@ use items::number;
 const DIGITS: usize = 10;
 
 // The largest buffer.
-const MOST_SIZE: u64 = 65_536;
+pub const MOST_SIZE: usize = 65_536;
 
 // The size of a buffer.
 #[tactic(auto, unfolding(crate::specs::Values::number_at))]
@@ -17,7 +17,7 @@ pub(crate) fn size_in(bytes: &[u8]) -> Option<usize>
     ensures { result ≡ number_at most_size bytes.now }
 {
     let size = number::<DIGITS>(bytes)?;
-    if size > MOST_SIZE {
+    if size > MOST_SIZE as u64 {
         None
     } else {
         Some(size as usize)

@@ -46,7 +46,8 @@ impl<O: Coded> Pager<O> {
         let Some(rank) = self.census.rank() else {
             return Ok(());
         };
-        // no heap: a code is held in memory of a fixed size, with its size beside it
+        // a code is held in memory of a fixed size, with its size beside it, so that a line needs no
+        // memory but that of its buffer
         let mut code = [0u8; MOST_SIZE];
         let _ = self.census.read(&mut code);
         let size = self.census.size();

@@ -1,13 +1,13 @@
-use Rattle.std.proofs.Common.{◌≡◌, [], ◌∷◌, rules, vec_items, subst}
-use Rattle.lines.specs.Texts.{fault_text}
+use Rattle.std.proofs.Common.{◌+◌, ◌≤◌, vec_items, vec_len, vec_capacity, subst, sym}
 use Rattle.pages.specs.Turns.{Listed}
-use Rattle.printouts.proofs.OneLine.{listed_line}
 use Rattle.printouts.proofs.listing.list_sheet.Goals as goal
-use Rattle.printouts.specs.Printed.{sheet_lines}
+use Rattle.printouts.specs.Printed.{room_of_all}
 
-pub returns-in-Fault-Some-clause-listed : goal.returns-in-Fault-Some-clause-listed
-returns-in-Fault-Some-clause-listed c =
-    let text = fault_text c.in-Fault-Some.fault in
-    let only : text ∷ [] ≡ sheet_lines c.args.sheet.now = search rules in
-    subst (λ lines. Listed (vec_items c.args.out.now) lines c.fault_line.result (vec_items c.fault_line.new.out)) only
-    (listed_line c.fault_line.result (vec_items c.args.out.now) text (vec_items c.fault_line.new.out) c.fault_line.ensures.items)
+pub returns-clause-listed : goal.returns-clause-listed
+returns-clause-listed c =
+    subst (λ lines. Listed (vec_items c.args.out.now) lines c.list_pages.result (vec_items c.list_pages.new.out)) c.of_sheet.ensures.lines c.list_pages.ensures.listed
+
+pub returns-clause-succeeds : goal.returns-clause-succeeds
+returns-clause-succeeds c = λ room.
+    let out = c.args.out.now in
+    c.list_pages.ensures.succeeds (subst (λ lines. vec_len out + room_of_all lines ≤ vec_capacity out) (sym c.of_sheet.ensures.lines) room)

@@ -1,5 +1,5 @@
 use Rattle.std.proofs.Common.{rules}
-use Rattle.printouts.proofs.answers.answer_line.Goals as goal
+use Rattle.printouts.proofs.answers.act_line.Goals as goal
 
 pub returns-in-Read-Ok-Done : goal.returns-in-Read-Ok-Done
 returns-in-Read-Ok-Done c = search rules
