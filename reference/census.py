@@ -1,6 +1,7 @@
 """Reference for the rules of the engine, written from the definitions (section numbers are those of RULES.md).
 
     python3 census.py census < SHEET
+    python3 census.py sheetcheck < SHEET
     python3 census.py replay SHEETFILE < ACTS
 
 Every answer is the plain census's (section 4): a place in the list of the set-up. The list comes from its
@@ -325,24 +326,38 @@ def replay(setup, text):
     plain = PlainCensus(setup)
     return [carry_out(plain, *act) for act in acts]
 
+def fault_line(fault):
+    no, line = fault.args
+    return f"fault {no} line {line} layer {LAYER[no]}"
+
 def output(sheet, acts=None):
     """The lines that `census` prints, or with acts those of `replay`."""
     try:
         subject, cap, most = read_sheet(sheet)
     except Refused as fault:
-        no, line = fault.args
-        return [f"fault {no} line {line} layer {LAYER[no]}"]
+        return [fault_line(fault)]
     setup = Cap(subject, cap)
     return census(setup, most) if acts is None else replay(setup, acts)
+
+def verdict(sheet):
+    """The one line that `sheetcheck` prints."""
+    try:
+        subject, cap, most = read_sheet(sheet)
+    except Refused as fault:
+        return fault_line(fault)
+    letter, pairs = ("P", 0) if isinstance(subject, Polygon) else ("R", len(subject.touch))
+    return f"accepted {letter} {subject.n} pairs {pairs} cap {cap} most {most}"
 
 def main(words):
     if words == ["census"]:
         lines = output(sys.stdin.buffer.read(LONGEST + 1))
+    elif words == ["sheetcheck"]:
+        lines = [verdict(sys.stdin.buffer.read(LONGEST + 1))]
     elif words[:1] == ["replay"] and len(words) == 2:
         with open(words[1], "rb") as file:
             lines = output(file.read(LONGEST + 1), sys.stdin.buffer.read())
     else:
-        sys.exit("usage: census.py census < SHEET | census.py replay SHEETFILE < ACTS")
+        sys.exit("usage: census.py census < SHEET | census.py sheetcheck < SHEET | census.py replay SHEETFILE < ACTS")
     sys.stdout.writelines(line + "\n" for line in lines)
 
 if __name__ == "__main__":
